@@ -1,0 +1,6 @@
+pub mod Memory
+pub mod Paths
+pub mod Reading
+pub mod Prefix
+pub mod Building
+pub mod Answers

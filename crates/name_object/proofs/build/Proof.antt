@@ -1,0 +1,138 @@
+-- The path holds the first i components of the whole name: the prefix byte by byte, then the segments four bytes at a time.
+use mathlib.Core.Path.{_≡_, sym, _∙_}
+use Prim.Native.Nat.{_+_, _-_, _≤_}
+use lib.ListN.{length, take, drop}
+use Rattle.name_object.specs.Component.{componentLimit}
+use Rattle.name_object.specs.Memory.{nameOf}
+use Rattle.name_object.proofs.Building.{whole, build-count, build-prefix, build-seg, build-half, build-done}
+use borrow.Author.Needs.{needs}
+use native.Mathlib.Omega.{arith}
+use Rattle.name_object.proofs.build.Statement.{statement}
+use Rattle.name_object.proofs.build.Tie as tie
+
+abbrev Inv-loop : tie.InvT-loop
+Inv-loop input pre from n name₀ i₀ name i = (i ≤ pre) × (name ≡ nameOf componentLimit (take i (whole input from n)))
+
+abbrev μ-loop : tie.MeasureT-loop
+μ-loop input pre from n name₀ i₀ name i = pre - i
+
+abbrev Inv-loop2 : tie.InvT-loop2
+Inv-loop2 input pre from n name₀ i j₀ name j = (j ≤ n) × (name ≡ nameOf componentLimit (take (pre + j) (whole input from n)))
+
+abbrev μ-loop2 : tie.MeasureT-loop2
+μ-loop2 input pre from n name₀ i j₀ name j = n - j
+
+empty-requires : tie.Need-empty-requires Inv-loop μ-loop Inv-loop2 μ-loop2
+empty-requires c κs = search needs
+
+loop-holds : tie.Need-loop-holds Inv-loop μ-loop Inv-loop2 μ-loop2
+loop-holds c = (omega arith, c .empty .ensures)
+
+shared-slice-read-push : tie.Need-shared-slice-read-push Inv-loop μ-loop Inv-loop2 μ-loop2
+shared-slice-read-push c = search needs
+
+push-requires : tie.Need-push-requires Inv-loop μ-loop Inv-loop2 μ-loop2
+push-requires c κs =
+    let a = c .before .before .before .before .before .args in
+    let l = c .before .before .loop in
+    omega (arith, build-count (a .input .now) (a .pre) (a .from) (a .n) (l .name) (omega arith) (omega arith) (l .i) (omega arith) (l .inv .1))
+
+add-i : tie.Need-add-i Inv-loop μ-loop Inv-loop2 μ-loop2
+add-i c = search needs
+
+loop-less : tie.Need-loop-less Inv-loop μ-loop Inv-loop2 μ-loop2
+loop-less c = search needs
+
+loop-again : tie.Need-loop-again Inv-loop μ-loop Inv-loop2 μ-loop2
+loop-again c =
+    let a = c .before .before .before .before .before .before .args in
+    let l = c .before .before .before .loop in
+    (omega arith, c .push .ensures ∙ build-prefix (a .input .now) (a .pre) (a .from) (a .n) (l .name) (omega arith) (omega arith) (l .i) (omega arith) (l .inv .1))
+
+loop2-holds : tie.Need-loop2-holds Inv-loop μ-loop Inv-loop2 μ-loop2
+loop2-holds c =
+    let a = c .before .before .before .before .args in
+    let l = c .before .loop in
+    (omega arith, build-half (a .input .now) (a .pre) (a .from) (a .n) (l .name) (omega arith) (omega arith) (l .i) (omega arith) (omega arith) (l .inv .1))
+
+mul-at : tie.Need-mul-at Inv-loop μ-loop Inv-loop2 μ-loop2
+mul-at c = search needs
+
+add-at : tie.Need-add-at Inv-loop μ-loop Inv-loop2 μ-loop2
+add-at c = search needs
+
+shared-slice-read-push-2 : tie.Need-shared-slice-read-push-2 Inv-loop μ-loop Inv-loop2 μ-loop2
+shared-slice-read-push-2 c = search needs
+
+add-push : tie.Need-add-push Inv-loop μ-loop Inv-loop2 μ-loop2
+add-push c = search needs
+
+shared-slice-read-push-3 : tie.Need-shared-slice-read-push-3 Inv-loop μ-loop Inv-loop2 μ-loop2
+shared-slice-read-push-3 c = search needs
+
+add-push-2 : tie.Need-add-push-2 Inv-loop μ-loop Inv-loop2 μ-loop2
+add-push-2 c = search needs
+
+shared-slice-read-push-4 : tie.Need-shared-slice-read-push-4 Inv-loop μ-loop Inv-loop2 μ-loop2
+shared-slice-read-push-4 c = search needs
+
+add-push-3 : tie.Need-add-push-3 Inv-loop μ-loop Inv-loop2 μ-loop2
+add-push-3 c = search needs
+
+shared-slice-read-push-5 : tie.Need-shared-slice-read-push-5 Inv-loop μ-loop Inv-loop2 μ-loop2
+shared-slice-read-push-5 c = search needs
+
+push-requires-2 : tie.Need-push-requires-2 Inv-loop μ-loop Inv-loop2 μ-loop2
+push-requires-2 c κs =
+    let a = c .before .before .before .before .before .before .before .before .before .before .args in
+    let l = c .before .before .before .before .before .loop2 in
+    omega (arith, build-count (a .input .now) (a .pre) (a .from) (a .n) (l .name) (omega arith) (omega arith) (a .pre + l .j) (omega arith) (l .inv .1))
+
+add-j : tie.Need-add-j Inv-loop μ-loop Inv-loop2 μ-loop2
+add-j c = search needs
+
+loop2-less : tie.Need-loop2-less Inv-loop μ-loop Inv-loop2 μ-loop2
+loop2-less c = search needs
+
+loop2-again : tie.Need-loop2-again Inv-loop μ-loop Inv-loop2 μ-loop2
+loop2-again c =
+    let a = c .before .before .before .before .before .before .before .before .before .before .before .args in
+    let l = c .before .before .before .before .before .before .loop2 in
+    (omega arith, c .push2 .ensures ∙ build-seg (a .input .now) (a .pre) (a .from) (a .n) (l .name) (omega arith) (omega arith) (l .j) (omega arith) (l .inv .1))
+
+returns : tie.Need-returns Inv-loop μ-loop Inv-loop2 μ-loop2
+returns c =
+    let a = c .before .before .before .before .before .before .args in
+    let l = c .before .loop2 in
+    build-done (a .input .now) (a .pre) (a .from) (a .n) (l .name) (omega arith) (omega arith) (l .j) (omega arith) (l .inv .1)
+
+pub build-spec : {M : Type 1} → statement M
+build-spec =
+    tie.close
+    (tie.spec
+    Inv-loop
+    μ-loop
+    Inv-loop2
+    μ-loop2
+    empty-requires
+    loop-holds
+    shared-slice-read-push
+    push-requires
+    add-i
+    loop-less
+    loop-again
+    loop2-holds
+    mul-at
+    add-at
+    shared-slice-read-push-2
+    add-push
+    shared-slice-read-push-3
+    add-push-2
+    shared-slice-read-push-4
+    add-push-3
+    shared-slice-read-push-5
+    push-requires-2
+    add-j
+    loop2-less
+    loop2-again
+    returns)

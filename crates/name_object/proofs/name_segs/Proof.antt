@@ -1,0 +1,61 @@
+-- What is left to read, from where the loop stands, answers as the whole run does.
+use mathlib.Core.Path.{sym, _∙_, ap}
+use Prim.Native.Nat.{_-_}
+use Rattle.name_object.specs.Inside.{cursorSaid}
+use Rattle.name_object.proofs.Reading.{Reached, reached-none, reached-more, reached-stop, reached-end}
+use borrow.Author.Needs.{needs}
+use native.Mathlib.Omega.{arith}
+use Rattle.name_object.proofs.name_segs.Statement.{statement}
+use Rattle.name_object.proofs.name_segs.Tie as tie
+
+abbrev Inv-loop : tie.InvT-loop
+Inv-loop input from n at₀ i₀ at i = Reached input from n at i
+
+abbrev μ-loop : tie.MeasureT-loop
+μ-loop input from n at₀ i₀ at i = n - i
+
+loop-holds : tie.Need-loop-holds Inv-loop μ-loop
+loop-holds c = reached-none _ _ _ (omega arith)
+
+name-seg-requires : tie.Need-name-seg-requires Inv-loop μ-loop
+name-seg-requires c κs = search needs
+
+enum-known-next : tie.Need-enum-known-next Inv-loop μ-loop
+enum-known-next c = search needs
+
+add-i : tie.Need-add-i Inv-loop μ-loop
+add-i c = search needs
+
+loop-less : tie.Need-loop-less Inv-loop μ-loop
+loop-less c = search needs
+
+loop-again : tie.Need-loop-again Inv-loop μ-loop
+loop-again c =
+    reached-more _ _ _ (c .before .before .before .before .before .loop .at) (c .before .before .before .before .before .loop .i) _ (c .before .before .before .before .before .loop .inv) (omega arith) (sym (ap cursorSaid (c .before .next .given .1)) ∙ c .before .before .before .name-seg .ensures)
+
+enum-known-e : tie.Need-enum-known-e Inv-loop μ-loop
+enum-known-e c = search needs
+
+returns : tie.Need-returns Inv-loop μ-loop
+returns c =
+    reached-stop _ _ _ (c .before .before .before .before .before .loop .at) (c .before .before .before .before .before .loop .i) _ _ (c .before .before .before .before .before .loop .inv) (omega arith) (sym (ap cursorSaid (c .before .e .given .1)) ∙ c .before .before .before .name-seg .ensures)
+
+returns-2 : tie.Need-returns-2 Inv-loop μ-loop
+returns-2 c =
+    reached-end _ _ _ (c .before .loop .at) (c .before .loop .i) (c .before .loop .inv) (omega arith)
+
+pub name-segs-spec : {M : Type 1} → statement M
+name-segs-spec =
+    tie.close
+    (tie.spec
+    Inv-loop
+    μ-loop
+    loop-holds
+    name-seg-requires
+    enum-known-next
+    add-i
+    loop-less
+    loop-again
+    enum-known-e
+    returns
+    returns-2)

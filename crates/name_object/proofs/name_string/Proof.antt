@@ -1,0 +1,89 @@
+-- Once the segments are read, the count of components decides: none is 7, too many 9, and else the path is built.
+use mathlib.Core.Path.{sym, _∙_, ap}
+use Rattle.name_object.specs.Component.{componentLimit}
+use Rattle.name_object.specs.Memory.{told}
+use Rattle.name_object.specs.Inside.{runSaid}
+use Rattle.name_object.proofs.Answers.{run-room, answer-refused, answer-empty, answer-over, answer-whole, answer-built}
+use borrow.Author.Needs.{needs}
+use native.Mathlib.Omega.{arith}
+use Rattle.name_object.proofs.name_string.Statement.{statement}
+use Rattle.name_object.proofs.name_string.Tie as tie
+
+prefixes-requires : tie.Need-prefixes-requires
+prefixes-requires c κs = search needs
+
+name-path-requires : tie.Need-name-path-requires
+name-path-requires c κs = search needs
+
+enum-known-e : tie.Need-enum-known-e
+enum-known-e c = search needs
+
+refuse-requires : tie.Need-refuse-requires
+refuse-requires c κs = search needs
+
+enum-known-run : tie.Need-enum-known-run
+enum-known-run c = search needs
+
+add-if1 : tie.Need-add-if1
+add-if1 c =
+    omega (arith, run-room (c .before .before .before .before .before .before .args .input .now) (c .before .before .before .before .prefixes .result) (c .before .run .given .0 .0) (sym (ap runSaid (c .before .run .given .1)) ∙ c .before .before .before .name-path .ensures))
+
+refuse-requires-2 : tie.Need-refuse-requires-2
+refuse-requires-2 c κs = search needs
+
+returns : tie.Need-returns
+returns c =
+    c .refuse2 .ensures ∙ ap (told componentLimit) (answer-empty (c .before .before .before .before .before .before .before .before .args .input .now) (c .before .before .before .before .before .before .prefixes .result) (c .before .before .before .before .before .before .prefixes .ensures .0) (c .before .before .before .run .given .0 .0) (sym (ap runSaid (c .before .before .before .run .given .1)) ∙ c .before .before .before .before .before .name-path .ensures) (omega arith))
+
+add-if2 : tie.Need-add-if2
+add-if2 c =
+    omega (arith, run-room (c .before .before .before .before .before .before .before .args .input .now) (c .before .before .before .before .before .prefixes .result) (c .before .before .run .given .0 .0) (sym (ap runSaid (c .before .before .run .given .1)) ∙ c .before .before .before .before .name-path .ensures))
+
+refuse-requires-3 : tie.Need-refuse-requires-3
+refuse-requires-3 c κs = search needs
+
+returns-2 : tie.Need-returns-2
+returns-2 c =
+    c .refuse3 .ensures ∙ ap (told componentLimit) (answer-over (c .before .before .before .before .before .before .before .before .before .args .input .now) (c .before .before .before .before .before .before .before .prefixes .result) (c .before .before .before .before .before .before .before .prefixes .ensures .0) (c .before .before .before .before .run .given .0 .0) (sym (ap runSaid (c .before .before .before .before .run .given .1)) ∙ c .before .before .before .before .before .before .name-path .ensures) (omega arith))
+
+build-requires : tie.Need-build-requires
+build-requires c κs =
+    let r = run-room (c .before .before .before .before .before .before .before .before .args .input .now) (c .before .before .before .before .before .before .prefixes .result) (c .before .before .before .run .given .0 .0) (sym (ap runSaid (c .before .before .before .run .given .1)) ∙ c .before .before .before .before .before .name-path .ensures) in
+    (c .before .before .before .before .before .before .prefixes .ensures .0, c .before .before .before .before .before .before .prefixes .ensures .1, r .1, omega arith)
+
+mul-t9 : tie.Need-mul-t9
+mul-t9 c = search needs
+
+add-t14 : tie.Need-add-t14
+add-t14 c =
+    omega (arith, run-room (c .before .before .before .before .before .before .before .before .before .args .input .now) (c .before .before .before .before .before .before .before .prefixes .result) (c .before .before .before .before .run .given .0 .0) (sym (ap runSaid (c .before .before .before .before .run .given .1)) ∙ c .before .before .before .before .before .before .name-path .ensures))
+
+returns-3 : tie.Need-returns-3
+returns-3 c =
+    c .refuse .ensures ∙ ap (told componentLimit) (answer-refused (c .before .before .before .before .before .before .before .args .input .now) (c .before .before .before .before .before .prefixes .result) (c .before .before .before .before .before .prefixes .ensures .0) _ _ (sym (ap runSaid (c .before .before .e .given .1)) ∙ c .before .before .before .before .name-path .ensures))
+
+returns-4 : tie.Need-returns-4
+returns-4 c =
+    answer-built (c .before .before .before .before .before .before .before .before .before .args .input .now) (c .before .before .before .before .before .before .before .prefixes .result) (c .before .before .before .before .before .before .before .prefixes .ensures .0) (c .before .before .before .before .run .given .0 .0) (sym (ap runSaid (c .before .before .before .before .run .given .1)) ∙ c .before .before .before .before .before .before .name-path .ensures) (c .build .result) (c .build .ensures)
+    ∙ ap (told componentLimit) (answer-whole (c .before .before .before .before .before .before .before .before .before .args .input .now) (c .before .before .before .before .before .before .before .prefixes .result) (c .before .before .before .before .before .before .before .prefixes .ensures .0) (c .before .before .before .before .run .given .0 .0) (sym (ap runSaid (c .before .before .before .before .run .given .1)) ∙ c .before .before .before .before .before .before .name-path .ensures) (λ e. omega arith) (omega arith))
+
+pub name-string-spec : {M : Type 1} → statement M
+name-string-spec =
+    tie.close
+    (tie.spec
+    prefixes-requires
+    name-path-requires
+    enum-known-e
+    refuse-requires
+    enum-known-run
+    add-if1
+    refuse-requires-2
+    returns
+    add-if2
+    refuse-requires-3
+    returns-2
+    build-requires
+    mul-t9
+    add-t14
+    returns-3
+    returns-4)

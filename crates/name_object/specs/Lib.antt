@@ -1,0 +1,5 @@
+pub mod Component
+pub mod Memory
+pub mod Name
+pub mod Grammar
+pub mod Inside
