@@ -19,7 +19,7 @@ use Rattle.name_object.specs.declared.AmlName.{AmlName}
 use Rattle.name_object.proofs.Reading.{byte-here, byte-end, byte-was, seg-was}
 use Rattle.name_object.proofs.Building.{whole, length-whole}
 
-abbrev run : ℕ → ℕ → Run
+abbrev pub run : ℕ → ℕ → Run
 run p n = record { from = p; count = n }
 
 -- ## Where the segments stand

@@ -4,3 +4,4 @@ pub mod Reading
 pub mod Prefix
 pub mod Building
 pub mod Answers
+pub mod Spelling
