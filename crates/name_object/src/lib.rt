@@ -126,12 +126,12 @@ fn name_segs(input: &[u8], from: usize, n: usize) -> RunAnswer
     ensures { λ r. ⌜ runSaid r ≡ runOf (now (input .entry)) from n ⌝ }
 {
     let mut at = from;
-    let mut i = 0;
-    while i < n {
+    let mut done = 0;
+    while done < n {
         match name_seg(input, at) {
             Cursor::At(next) => {
                 at = next;
-                i += 1;
+                done += 1;
             }
             Cursor::Refused(e) => {
                 return RunAnswer::Refused(e);

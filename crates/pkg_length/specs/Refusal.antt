@@ -47,41 +47,38 @@ abbrev pub pick : {A : Type 0} → Bool → A → A → A
 pick true a b = a
 pick false a b = b
 
-abbrev pub row : ℕ → ℕ → Refusal
-row n p = record { number = n; place = p }
-
--- the table; 0 is the place where it gives none
+-- the table: number and place, 0 where it gives none
 abbrev pub paper : AmlError → Refusal
-paper (UnexpectedEndOfStream p) = row 1 p
-paper (InvalidPkgLength p) = row 2 p
-paper (BadOpcode p) = row 3 p
-paper (TooDeep p) = row 4 p
-paper BlockTooLong = row 5 0
-paper (BadNameByte p) = row 6 p
-paper EmptyNamesAreInvalid = row 7 0
-paper (InvalidNameSeg p) = row 8 p
-paper TooManyComponents = row 9 0
-paper InvalidNormalizedName = row 10 0
-paper NotAbsolute = row 11 0
-paper RootHasNoParent = row 12 0
-paper RootNotAllowed = row 13 0
-paper TriedToRemoveRootNamespace = row 14 0
-paper (LevelDoesNotExist p) = row 15 p
-paper ValueDoesNotExist = row 16 0
-paper NameCollision = row 17 0
-paper LevelsFull = row 18 0
-paper BindingsFull = row 19 0
-paper ObjectsFull = row 20 0
-paper NoSuchHandle = row 21 0
-paper BudgetSpent = row 22 0
-paper (Unset p) = row 23 p
-paper BadTable = row 24 0
-paper OutTooSmall = row 25 0
-paper BadPath = row 26 0
+paper (UnexpectedEndOfStream p) = (1, p)
+paper (InvalidPkgLength p) = (2, p)
+paper (BadOpcode p) = (3, p)
+paper (TooDeep p) = (4, p)
+paper BlockTooLong = (5, 0)
+paper (BadNameByte p) = (6, p)
+paper EmptyNamesAreInvalid = (7, 0)
+paper (InvalidNameSeg p) = (8, p)
+paper TooManyComponents = (9, 0)
+paper InvalidNormalizedName = (10, 0)
+paper NotAbsolute = (11, 0)
+paper RootHasNoParent = (12, 0)
+paper RootNotAllowed = (13, 0)
+paper TriedToRemoveRootNamespace = (14, 0)
+paper (LevelDoesNotExist p) = (15, p)
+paper ValueDoesNotExist = (16, 0)
+paper NameCollision = (17, 0)
+paper LevelsFull = (18, 0)
+paper BindingsFull = (19, 0)
+paper ObjectsFull = (20, 0)
+paper NoSuchHandle = (21, 0)
+paper BudgetSpent = (22, 0)
+paper (Unset p) = (23, p)
+paper BadTable = (24, 0)
+paper OutTooSmall = (25, 0)
+paper BadPath = (26, 0)
 
 -- a refusal of the code, as the paper states it
 abbrev pub refused : {A : Type 0} → AmlError → Answer A
-refused e = refuses (paper e .number) (paper e .place)
+refused e = refuses (paper e .0) (paper e .1)
 
 -- the two reasons of 2, at the length's lead byte: the package passes its part, or it ends before its contents
 abbrev pub passesPart : {A : Type 0} → ℕ → Answer A

@@ -37,121 +37,40 @@ pub enum AmlError {
     BadPath,
 }
 
-// A refusal as document 01 numbers it, with its place, 0 where the table gives none.
-pub struct Refusal {
-    pub number: usize,
-    pub place: usize,
-}
+// A refusal as the table numbers it: the number, and the place, 0 where the table gives none.
+pub struct Refusal(pub usize, pub usize);
 
 impl AmlError {
     pub fn numbered(self) -> Refusal
         ensures { λ r. ⌜ r ≡ paper self ⌝ }
     {
         match self {
-            AmlError::UnexpectedEndOfStream(end) => Refusal {
-                number: 1,
-                place: end,
-            },
-            AmlError::InvalidPkgLength(lead) => Refusal {
-                number: 2,
-                place: lead,
-            },
-            AmlError::BadOpcode(at) => Refusal {
-                number: 3,
-                place: at,
-            },
-            AmlError::TooDeep(at) => Refusal {
-                number: 4,
-                place: at,
-            },
-            AmlError::BlockTooLong => Refusal {
-                number: 5,
-                place: 0,
-            },
-            AmlError::BadNameByte(at) => Refusal {
-                number: 6,
-                place: at,
-            },
-            AmlError::EmptyNamesAreInvalid => Refusal {
-                number: 7,
-                place: 0,
-            },
-            AmlError::InvalidNameSeg(at) => Refusal {
-                number: 8,
-                place: at,
-            },
-            AmlError::TooManyComponents => Refusal {
-                number: 9,
-                place: 0,
-            },
-            AmlError::InvalidNormalizedName => Refusal {
-                number: 10,
-                place: 0,
-            },
-            AmlError::NotAbsolute => Refusal {
-                number: 11,
-                place: 0,
-            },
-            AmlError::RootHasNoParent => Refusal {
-                number: 12,
-                place: 0,
-            },
-            AmlError::RootNotAllowed => Refusal {
-                number: 13,
-                place: 0,
-            },
-            AmlError::TriedToRemoveRootNamespace => Refusal {
-                number: 14,
-                place: 0,
-            },
-            AmlError::LevelDoesNotExist(segments) => Refusal {
-                number: 15,
-                place: segments,
-            },
-            AmlError::ValueDoesNotExist => Refusal {
-                number: 16,
-                place: 0,
-            },
-            AmlError::NameCollision => Refusal {
-                number: 17,
-                place: 0,
-            },
-            AmlError::LevelsFull => Refusal {
-                number: 18,
-                place: 0,
-            },
-            AmlError::BindingsFull => Refusal {
-                number: 19,
-                place: 0,
-            },
-            AmlError::ObjectsFull => Refusal {
-                number: 20,
-                place: 0,
-            },
-            AmlError::NoSuchHandle => Refusal {
-                number: 21,
-                place: 0,
-            },
-            AmlError::BudgetSpent => Refusal {
-                number: 22,
-                place: 0,
-            },
-            AmlError::Unset(cell) => Refusal {
-                number: 23,
-                place: cell,
-            },
-            AmlError::BadTable => Refusal {
-                number: 24,
-                place: 0,
-            },
-            AmlError::OutTooSmall => Refusal {
-                number: 25,
-                place: 0,
-            },
-            AmlError::BadPath => Refusal {
-                number: 26,
-                place: 0,
-            },
+            AmlError::UnexpectedEndOfStream(end) => Refusal(1, end),
+            AmlError::InvalidPkgLength(lead) => Refusal(2, lead),
+            AmlError::BadOpcode(at) => Refusal(3, at),
+            AmlError::TooDeep(at) => Refusal(4, at),
+            AmlError::BlockTooLong => Refusal(5, 0),
+            AmlError::BadNameByte(at) => Refusal(6, at),
+            AmlError::EmptyNamesAreInvalid => Refusal(7, 0),
+            AmlError::InvalidNameSeg(at) => Refusal(8, at),
+            AmlError::TooManyComponents => Refusal(9, 0),
+            AmlError::InvalidNormalizedName => Refusal(10, 0),
+            AmlError::NotAbsolute => Refusal(11, 0),
+            AmlError::RootHasNoParent => Refusal(12, 0),
+            AmlError::RootNotAllowed => Refusal(13, 0),
+            AmlError::TriedToRemoveRootNamespace => Refusal(14, 0),
+            AmlError::LevelDoesNotExist(segments) => Refusal(15, segments),
+            AmlError::ValueDoesNotExist => Refusal(16, 0),
+            AmlError::NameCollision => Refusal(17, 0),
+            AmlError::LevelsFull => Refusal(18, 0),
+            AmlError::BindingsFull => Refusal(19, 0),
+            AmlError::ObjectsFull => Refusal(20, 0),
+            AmlError::NoSuchHandle => Refusal(21, 0),
+            AmlError::BudgetSpent => Refusal(22, 0),
+            AmlError::Unset(cell) => Refusal(23, cell),
+            AmlError::BadTable => Refusal(24, 0),
+            AmlError::OutTooSmall => Refusal(25, 0),
+            AmlError::BadPath => Refusal(26, 0),
         }
     }
 }

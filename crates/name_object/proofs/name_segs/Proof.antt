@@ -9,10 +9,10 @@ use Rattle.name_object.proofs.name_segs.Statement.{statement}
 use Rattle.name_object.proofs.name_segs.Tie as tie
 
 abbrev Inv-loop : tie.InvT-loop
-Inv-loop input from n at₀ i₀ at i = Reached input from n at i
+Inv-loop input from n at₀ done₀ at done = Reached input from n at done
 
 abbrev μ-loop : tie.MeasureT-loop
-μ-loop input from n at₀ i₀ at i = n - i
+μ-loop input from n at₀ done₀ at done = n - done
 
 loop-holds : tie.Need-loop-holds Inv-loop μ-loop
 loop-holds c = reached-none _ _ _ (omega arith)
@@ -23,26 +23,26 @@ name-seg-requires c κs = search needs
 enum-known-next : tie.Need-enum-known-next Inv-loop μ-loop
 enum-known-next c = search needs
 
-add-i : tie.Need-add-i Inv-loop μ-loop
-add-i c = search needs
+add-done : tie.Need-add-done Inv-loop μ-loop
+add-done c = search needs
 
 loop-less : tie.Need-loop-less Inv-loop μ-loop
 loop-less c = search needs
 
 loop-again : tie.Need-loop-again Inv-loop μ-loop
 loop-again c =
-    reached-more _ _ _ (c .before .before .before .before .before .loop .at) (c .before .before .before .before .before .loop .i) _ (c .before .before .before .before .before .loop .inv) (omega arith) (sym (ap cursorSaid (c .before .next .given .1)) ∙ c .before .before .before .name-seg .ensures)
+    reached-more _ _ _ (c .before .before .before .before .before .loop .at) (c .before .before .before .before .before .loop .done) _ (c .before .before .before .before .before .loop .inv) (omega arith) (sym (ap cursorSaid (c .before .next .given .1)) ∙ c .before .before .before .name-seg .ensures)
 
 enum-known-e : tie.Need-enum-known-e Inv-loop μ-loop
 enum-known-e c = search needs
 
 returns : tie.Need-returns Inv-loop μ-loop
 returns c =
-    reached-stop _ _ _ (c .before .before .before .before .before .loop .at) (c .before .before .before .before .before .loop .i) _ _ (c .before .before .before .before .before .loop .inv) (omega arith) (sym (ap cursorSaid (c .before .e .given .1)) ∙ c .before .before .before .name-seg .ensures)
+    reached-stop _ _ _ (c .before .before .before .before .before .loop .at) (c .before .before .before .before .before .loop .done) _ _ (c .before .before .before .before .before .loop .inv) (omega arith) (sym (ap cursorSaid (c .before .e .given .1)) ∙ c .before .before .before .name-seg .ensures)
 
 returns-2 : tie.Need-returns-2 Inv-loop μ-loop
 returns-2 c =
-    reached-end _ _ _ (c .before .loop .at) (c .before .loop .i) (c .before .loop .inv) (omega arith)
+    reached-end _ _ _ (c .before .loop .at) (c .before .loop .done) (c .before .loop .inv) (omega arith)
 
 pub name-segs-spec : {M : Type 1} → statement M
 name-segs-spec =
@@ -53,7 +53,7 @@ name-segs-spec =
     loop-holds
     name-seg-requires
     enum-known-next
-    add-i
+    add-done
     loop-less
     loop-again
     enum-known-e

@@ -1,4 +1,4 @@
--- Each arm names one row of the table: with the case that it matched, both sides compute to that row.
+-- Each arm gives one row of the table: with the case that it matched, both sides compute to that row.
 use borrow.Author.Needs.{needs}
 use Rattle.pkg_length.proofs.AmlError.numbered.Statement.{statement}
 use Rattle.pkg_length.proofs.AmlError.numbered.Tie as tie
