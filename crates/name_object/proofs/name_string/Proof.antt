@@ -26,46 +26,76 @@ enum-known-run c = search needs
 
 add-if1 : tie.Need-add-if1
 add-if1 c =
-    omega (arith, run-room (c .before .before .before .before .before .before .args .input .now) (c .before .before .before .before .prefixes .result) (c .before .run .given .0 .0) (sym (ap runSaid (c .before .run .given .1)) ∙ c .before .before .before .name-path .ensures))
+    let xs = c .before .before .before .before .before .before .args .input .now in
+    let pre = c .before .before .before .before .prefixes in
+    let run = c .before .run .given in
+    let read = sym (ap runSaid (run .1)) ∙ c .before .before .before .name-path .ensures in
+    omega (arith, run-room xs (pre .result) (run .0 .0) read)
 
 refuse-requires-2 : tie.Need-refuse-requires-2
 refuse-requires-2 c κs = search needs
 
 returns : tie.Need-returns
 returns c =
-    c .refuse2 .ensures ∙ ap (told componentLimit) (answer-empty (c .before .before .before .before .before .before .before .before .args .input .now) (c .before .before .before .before .before .before .prefixes .result) (c .before .before .before .before .before .before .prefixes .ensures .0) (c .before .before .before .run .given .0 .0) (sym (ap runSaid (c .before .before .before .run .given .1)) ∙ c .before .before .before .before .before .name-path .ensures) (omega arith))
+    let xs = c .before .before .before .before .before .before .before .before .args .input .now in
+    let pre = c .before .before .before .before .before .before .prefixes in
+    let run = c .before .before .before .run .given in
+    let read = sym (ap runSaid (run .1)) ∙ c .before .before .before .before .before .name-path .ensures in
+    c .refuse2 .ensures ∙ ap (told componentLimit) (answer-empty xs (pre .result) (pre .ensures .0) (run .0 .0) read (omega arith))
 
 add-if2 : tie.Need-add-if2
 add-if2 c =
-    omega (arith, run-room (c .before .before .before .before .before .before .before .args .input .now) (c .before .before .before .before .before .prefixes .result) (c .before .before .run .given .0 .0) (sym (ap runSaid (c .before .before .run .given .1)) ∙ c .before .before .before .before .name-path .ensures))
+    let xs = c .before .before .before .before .before .before .before .args .input .now in
+    let pre = c .before .before .before .before .before .prefixes in
+    let run = c .before .before .run .given in
+    let read = sym (ap runSaid (run .1)) ∙ c .before .before .before .before .name-path .ensures in
+    omega (arith, run-room xs (pre .result) (run .0 .0) read)
 
 refuse-requires-3 : tie.Need-refuse-requires-3
 refuse-requires-3 c κs = search needs
 
 returns-2 : tie.Need-returns-2
 returns-2 c =
-    c .refuse3 .ensures ∙ ap (told componentLimit) (answer-over (c .before .before .before .before .before .before .before .before .before .args .input .now) (c .before .before .before .before .before .before .before .prefixes .result) (c .before .before .before .before .before .before .before .prefixes .ensures .0) (c .before .before .before .before .run .given .0 .0) (sym (ap runSaid (c .before .before .before .before .run .given .1)) ∙ c .before .before .before .before .before .before .name-path .ensures) (omega arith))
+    let xs = c .before .before .before .before .before .before .before .before .before .args .input .now in
+    let pre = c .before .before .before .before .before .before .before .prefixes in
+    let run = c .before .before .before .before .run .given in
+    let read = sym (ap runSaid (run .1)) ∙ c .before .before .before .before .before .before .name-path .ensures in
+    c .refuse3 .ensures ∙ ap (told componentLimit) (answer-over xs (pre .result) (pre .ensures .0) (run .0 .0) read (omega arith))
 
 build-requires : tie.Need-build-requires
 build-requires c κs =
-    let r = run-room (c .before .before .before .before .before .before .before .before .args .input .now) (c .before .before .before .before .before .before .prefixes .result) (c .before .before .before .run .given .0 .0) (sym (ap runSaid (c .before .before .before .run .given .1)) ∙ c .before .before .before .before .before .name-path .ensures) in
-    (c .before .before .before .before .before .before .prefixes .ensures .0, c .before .before .before .before .before .before .prefixes .ensures .1, r .1, omega arith)
+    let xs = c .before .before .before .before .before .before .before .before .args .input .now in
+    let pre = c .before .before .before .before .before .before .prefixes in
+    let run = c .before .before .before .run .given in
+    let read = sym (ap runSaid (run .1)) ∙ c .before .before .before .before .before .name-path .ensures in
+    (pre .ensures .0, pre .ensures .1, run-room xs (pre .result) (run .0 .0) read .1, omega arith)
 
 mul-t9 : tie.Need-mul-t9
 mul-t9 c = search needs
 
 add-t14 : tie.Need-add-t14
 add-t14 c =
-    omega (arith, run-room (c .before .before .before .before .before .before .before .before .before .args .input .now) (c .before .before .before .before .before .before .before .prefixes .result) (c .before .before .before .before .run .given .0 .0) (sym (ap runSaid (c .before .before .before .before .run .given .1)) ∙ c .before .before .before .before .before .before .name-path .ensures))
+    let xs = c .before .before .before .before .before .before .before .before .before .args .input .now in
+    let pre = c .before .before .before .before .before .before .before .prefixes in
+    let run = c .before .before .before .before .run .given in
+    let read = sym (ap runSaid (run .1)) ∙ c .before .before .before .before .before .before .name-path .ensures in
+    omega (arith, run-room xs (pre .result) (run .0 .0) read)
 
 returns-3 : tie.Need-returns-3
 returns-3 c =
-    c .refuse .ensures ∙ ap (told componentLimit) (answer-refused (c .before .before .before .before .before .before .before .args .input .now) (c .before .before .before .before .before .prefixes .result) (c .before .before .before .before .before .prefixes .ensures .0) _ _ (sym (ap runSaid (c .before .before .e .given .1)) ∙ c .before .before .before .before .name-path .ensures))
+    let xs = c .before .before .before .before .before .before .before .args .input .now in
+    let pre = c .before .before .before .before .before .prefixes in
+    let read = sym (ap runSaid (c .before .before .e .given .1)) ∙ c .before .before .before .before .name-path .ensures in
+    c .refuse .ensures ∙ ap (told componentLimit) (answer-refused xs (pre .result) (pre .ensures .0) _ _ read)
 
 returns-4 : tie.Need-returns-4
 returns-4 c =
-    answer-built (c .before .before .before .before .before .before .before .before .before .args .input .now) (c .before .before .before .before .before .before .before .prefixes .result) (c .before .before .before .before .before .before .before .prefixes .ensures .0) (c .before .before .before .before .run .given .0 .0) (sym (ap runSaid (c .before .before .before .before .run .given .1)) ∙ c .before .before .before .before .before .before .name-path .ensures) (c .build .result) (c .build .ensures)
-    ∙ ap (told componentLimit) (answer-whole (c .before .before .before .before .before .before .before .before .before .args .input .now) (c .before .before .before .before .before .before .before .prefixes .result) (c .before .before .before .before .before .before .before .prefixes .ensures .0) (c .before .before .before .before .run .given .0 .0) (sym (ap runSaid (c .before .before .before .before .run .given .1)) ∙ c .before .before .before .before .before .before .name-path .ensures) (λ e. omega arith) (omega arith))
+    let xs = c .before .before .before .before .before .before .before .before .before .args .input .now in
+    let pre = c .before .before .before .before .before .before .before .prefixes in
+    let run = c .before .before .before .before .run .given in
+    let read = sym (ap runSaid (run .1)) ∙ c .before .before .before .before .before .before .name-path .ensures in
+    answer-built xs (pre .result) (pre .ensures .0) (run .0 .0) read (c .build .result) (c .build .ensures)
+    ∙ ap (told componentLimit) (answer-whole xs (pre .result) (pre .ensures .0) (run .0 .0) read (λ e. omega arith) (omega arith))
 
 pub name-string-spec : {M : Type 1} → statement M
 name-string-spec =
