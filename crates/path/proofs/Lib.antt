@@ -1,0 +1,11 @@
+pub mod Basics
+pub mod Tests
+pub mod Shown
+pub mod Walks
+pub mod Climbs
+pub mod Flags
+pub mod Readings
+pub mod Writings
+pub mod Texts
+pub mod Answers
+pub mod Laws

@@ -1,0 +1,57 @@
+use mathlib.Core.Path.{_≡_, refl, sym, _∙_, ap}
+use Rattle.name_object.specs.Component.{componentLimit}
+use Rattle.name_object.specs.Memory.{pathOf}
+use Rattle.path.specs.Inside.{nameIn}
+use Rattle.path.proofs.Basics.{answers-as}
+use Rattle.path.proofs.Walks.{res-relative, res-alone, res-joined}
+use borrow.Author.Needs.{needs}
+use native.Mathlib.Omega.{arith}
+use Rattle.path.proofs.climb.resolved.Statement.{statement}
+use Rattle.path.proofs.climb.resolved.Tie as tie
+
+is-rooted-requires : tie.Need-is-rooted-requires
+is-rooted-requires c κs = search needs
+
+is-rooted-requires-2 : tie.Need-is-rooted-requires-2
+is-rooted-requires-2 c κs = search needs
+
+normal-requires : tie.Need-normal-requires
+normal-requires c κs = c .before .before .before .before .pre .0
+
+returns : tie.Need-returns
+returns c =
+    let name = pathOf (nameIn (c .before .before .before .before .before .args .count) (c .before .before .before .before .before .args .path .now)) in
+    let scope = pathOf (nameIn (c .before .before .before .before .before .args .below) (c .before .before .before .before .before .args .scope .now)) in
+    answers-as (res-alone componentLimit name scope (sym (c .before .before .before .before .is-rooted .ensures) ∙ c .before .before .before .if1 .taken) (sym (c .before .before .is-rooted2 .ensures) ∙ c .before .if2 .taken)) (c .normal .ensures)
+
+joined-requires : tie.Need-joined-requires
+joined-requires c κs =
+    record { size = c .before .before .before .before .pre .0 .0; ok = c .before .before .before .before .pre .0 .1; below = c .before .before .before .before .pre .1; good = c .before .before .before .before .pre .2; relative = sym (c .before .is-rooted2 .ensures) ∙ c .if2 .left }
+
+returns-2 : tie.Need-returns-2
+returns-2 c =
+    let name = pathOf (nameIn (c .before .before .before .before .before .args .count) (c .before .before .before .before .before .args .path .now)) in
+    let scope = pathOf (nameIn (c .before .before .before .before .before .args .below) (c .before .before .before .before .before .args .scope .now)) in
+    answers-as (res-joined componentLimit name scope (sym (c .before .before .before .before .is-rooted .ensures) ∙ c .before .before .before .if1 .taken) (sym (c .before .before .is-rooted2 .ensures) ∙ c .before .if2 .left)) (c .joined .ensures)
+
+refuse-requires : tie.Need-refuse-requires
+refuse-requires c κs = search needs
+
+returns-3 : tie.Need-returns-3
+returns-3 c =
+    let name = pathOf (nameIn (c .before .before .before .args .count) (c .before .before .before .args .path .now)) in
+    let scope = pathOf (nameIn (c .before .before .before .args .below) (c .before .before .before .args .scope .now)) in
+    answers-as (res-relative componentLimit name scope (sym (c .before .before .is-rooted .ensures) ∙ c .before .if1 .left)) (c .refuse .ensures)
+
+pub resolved-spec : {M : Type 1} → statement M
+resolved-spec =
+    tie.close
+    (tie.spec
+    is-rooted-requires
+    is-rooted-requires-2
+    normal-requires
+    returns
+    joined-requires
+    returns-2
+    refuse-requires
+    returns-3)

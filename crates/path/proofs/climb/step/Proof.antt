@@ -1,0 +1,75 @@
+-- A law for each way that a step goes.
+use mathlib.Core.Path.{_≡_, refl, sym, _∙_, ap}
+use mathlib.Core.Bool.{true, false}
+use Rattle.pkg_length.specs.Refusal.{gives}
+use Rattle.path.specs.Normal.{step}
+use Rattle.path.specs.declared.climb.Climb.{Climb}
+use Rattle.path.proofs.Climbs.{is-up, not-up, climb-push, climb-pop, climb-stop, climbed-as}
+use borrow.Author.Needs.{needs}
+use native.Mathlib.Omega.{arith}
+use Prim.Native.Nat.{_+_, _-_}
+use Rattle.path.proofs.climb.step.Statement.{statement}
+use Rattle.path.proofs.climb.step.Tie as tie
+
+has-segment-requires : tie.Need-has-segment-requires
+has-segment-requires c κs = search needs
+
+sub-put : tie.Need-sub-put
+sub-put c = omega (arith, c .before .before .has-segment .ensures .some (c .before .if2 .taken))
+
+put-requires : tie.Need-put-requires
+put-requires c κs = search needs
+
+sub-t12 : tie.Need-sub-t12
+sub-t12 c =
+    omega (arith, c .before .before .before .has-segment .ensures .some (c .before .before .if2 .taken))
+
+returns : tie.Need-returns
+returns c =
+    let a = c .before .before .before .before .before .before .args in
+    record {
+      low = omega arith;
+      is = λ done x s f e.
+          climbed-as (Climb.High (a .high - 1)) (c .put .ensures) (ap (step (gives done)) (is-up x (a .a) (a .b) (a .c) (a .d) _ e f (c .before .before .before .before .before .if1 .taken)))
+          (climb-pop (a .out .now) (a .high) done s (sym (c .before .before .before .has-segment .ensures .is done s) ∙ c .before .before .if2 .taken));
+    }
+
+returns-2 : tie.Need-returns-2
+returns-2 c =
+    let a = c .before .before .before .before .args in
+    record {
+      low = tt;
+      is = λ done x s f e.
+          ap (step (gives done)) (is-up x (a .a) (a .b) (a .c) (a .d) _ e f (c .before .before .before .if1 .taken))
+          ∙ climb-stop (a .out .now) (a .high) done s (sym (c .before .has-segment .ensures .is done s) ∙ c .if2 .left);
+    }
+
+put-requires-2 : tie.Need-put-requires-2
+put-requires-2 c κs = search needs
+
+add-t15 : tie.Need-add-t15
+add-t15 c = search needs
+
+returns-3 : tie.Need-returns-3
+returns-3 c =
+    let a = c .before .before .before .args in
+    record {
+      low = omega arith;
+      is = λ done x s f e.
+          climbed-as (Climb.High (a .high + 1)) (c .put2 .ensures) refl
+          (climb-push (a .out .now) (a .high) done s x (a .a) (a .b) (a .c) (a .d) f e (not-up x (a .a) (a .b) (a .c) (a .d) e (c .before .before .if1 .left)));
+    }
+
+pub step-spec : {M : Type 1} → statement M
+step-spec =
+    tie.close
+    (tie.spec
+    has-segment-requires
+    sub-put
+    put-requires
+    sub-t12
+    returns
+    returns-2
+    put-requires-2
+    add-t15
+    returns-3)

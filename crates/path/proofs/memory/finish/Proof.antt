@@ -1,0 +1,28 @@
+use mathlib.Core.Path.{_≡_, refl, sym, _∙_, ap}
+use Rattle.name_object.specs.Component.{componentLimit}
+use Rattle.name_object.specs.Memory.{nameOf}
+use Rattle.name_object.proofs.Memory.{same-name}
+use Rattle.path.proofs.Basics.{answers-as, same-told}
+use Rattle.path.proofs.Shown.{shown-fits}
+use Rattle.path.proofs.Walks.{limited-in, limited-over}
+use borrow.Author.Needs.{needs}
+use native.Mathlib.Omega.{arith}
+use Rattle.path.proofs.memory.finish.Statement.{statement}
+use Rattle.path.proofs.memory.finish.Tie as tie
+
+refuse-requires : tie.Need-refuse-requires
+refuse-requires c κs = search needs
+
+returns : tie.Need-returns
+returns c =
+    λ cs m n. answers-as (sym (limited-over componentLimit cs (omega arith))) (c .refuse .ensures)
+
+returns-2 : tie.Need-returns-2
+unfolding nameOf
+returns-2 c =
+    λ cs m n.
+    answers-as (sym (limited-in componentLimit cs (omega arith)))
+    (same-told (same-name n (m ∙ shown-fits componentLimit cs (omega arith))) refl)
+
+pub finish-spec : {M : Type 1} → statement M
+finish-spec = tie.close (tie.spec refuse-requires returns returns-2)

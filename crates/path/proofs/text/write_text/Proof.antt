@@ -1,0 +1,119 @@
+-- What stands is the text so far, and behind it what was lent.
+use mathlib.Core.Path.{_≡_, refl, sym, _∙_, ap}
+use mathlib.Core.List.{List, []}
+use Prim.Native.Nat.{_+_, _-_, _*_, _≤_, _<_}
+use lib.Dec.{ltb}
+use lib.ListN.{length, getD, drop}
+use lib.Seq.{length-sets}
+use Rattle.name_object.specs.Component.{componentLimit}
+use Rattle.name_object.specs.Memory.{pathOf}
+use Rattle.name_object.proofs.Paths.{path-fine}
+use Rattle.path.specs.Text.{textOf}
+use Rattle.path.specs.Inside.{nameIn, piece}
+use Rattle.path.proofs.Writings.{Written, written-none, written-turn, written-room, written-all, text-end, text-next, length-next, piece-length}
+use Rattle.path.proofs.Walks.{length-path}
+use borrow.Author.Needs.{needs}
+use native.Mathlib.Omega.{arith}
+use Rattle.path.proofs.text.write_text.Statement.{statement}
+use Rattle.path.proofs.text.write_text.Tie as tie
+
+abbrev Inv-loop : tie.InvT-loop
+Inv-loop out₀ bytes count at₀ i₀ out at i =
+    (i ≤ count) × (count ≤ componentLimit) × (length out ≡ length out₀) × (length (textOf (pathOf (nameIn count bytes))) ≤ length out₀)
+    × Written out out₀ at (textOf (drop i (pathOf (nameIn count bytes)))) (textOf (pathOf (nameIn count bytes)))
+
+abbrev μ-loop : tie.MeasureT-loop
+μ-loop out₀ bytes count at₀ i₀ out at i =
+    count - i
+
+loop-holds : tie.Need-loop-holds Inv-loop μ-loop
+loop-holds c =
+    let name = nameIn (c .before .args .count) (c .before .args .bytes .now) in
+    (omega arith, path-fine componentLimit name (c .before .pre .1) .1, refl, c .before .pre .2, written-none _ _)
+
+mul-p : tie.Need-mul-p Inv-loop μ-loop
+mul-p c = omega arith
+
+add-write-piece : tie.Need-add-write-piece Inv-loop μ-loop
+add-write-piece c = omega arith
+
+element-copy-out-write-piece : tie.Need-element-copy-out-write-piece Inv-loop μ-loop
+element-copy-out-write-piece c = omega arith
+
+add-write-piece-2 : tie.Need-add-write-piece-2 Inv-loop μ-loop
+add-write-piece-2 c = omega arith
+
+element-copy-out-write-piece-2 : tie.Need-element-copy-out-write-piece-2 Inv-loop μ-loop
+element-copy-out-write-piece-2 c = omega arith
+
+add-write-piece-3 : tie.Need-add-write-piece-3 Inv-loop μ-loop
+add-write-piece-3 c = omega arith
+
+element-copy-out-write-piece-3 : tie.Need-element-copy-out-write-piece-3 Inv-loop μ-loop
+element-copy-out-write-piece-3 c = omega arith
+
+add-write-piece-4 : tie.Need-add-write-piece-4 Inv-loop μ-loop
+add-write-piece-4 c = omega arith
+
+element-copy-out-write-piece-4 : tie.Need-element-copy-out-write-piece-4 Inv-loop μ-loop
+element-copy-out-write-piece-4 c = omega arith
+
+write-piece-requires : tie.Need-write-piece-requires Inv-loop μ-loop
+write-piece-requires c κs =
+    let name = nameIn (c .before .before .before .before .before .before .before .before .args .count) (c .before .before .before .before .before .before .before .before .args .bytes .now) in
+    let l = c .before .before .before .before .before .before .loop in
+    omega (arith, length-next name (l .i) (c .before .before .before .before .before .before .before .before .pre .0) (c .before .before .before .before .before .before .before .before .pre .1) (omega arith), written-room (l .out) (c .before .before .before .before .before .before .before .before .args .out .now) (l .at) _ _ (l .inv .4))
+
+add-i : tie.Need-add-i Inv-loop μ-loop
+add-i c = omega arith
+
+loop-less : tie.Need-loop-less Inv-loop μ-loop
+loop-less c = omega arith
+
+loop-again : tie.Need-loop-again Inv-loop μ-loop
+loop-again c =
+    let name = nameIn (c .before .before .before .before .before .before .before .before .before .before .before .args .count) (c .before .before .before .before .before .before .before .before .before .before .before .args .bytes .now) in
+    let l = c .before .before .before .before .before .before .before .before .before .loop in
+    let m = ltb (l .i + 1) (name .count) in
+    let b = name .bytes in
+    let u = piece m (getD b (4 * l .i) 0) (getD b (4 * l .i + 1) 0) (getD b (4 * l .i + 2) 0) (getD b (4 * l .i + 3) 0) in (
+      omega arith,
+      l .inv .1,
+      ap length (c .before .before .write-piece .ensures .0) ∙ length-sets (l .out) (l .at) u ∙ l .inv .2,
+      l .inv .3,
+      written-turn (l .out) (c .before .before .write-piece .last .0) (c .before .before .before .before .before .before .before .before .before .before .before .args .out .now) (l .at) (c .before .before .write-piece .result) u _ _ _ _
+          (l .inv .2) (l .inv .3) (piece-length m (getD b (4 * l .i) 0) (getD b (4 * l .i + 1) 0) (getD b (4 * l .i + 2) 0) (getD b (4 * l .i + 3) 0))
+          (text-next name (l .i) (c .before .before .before .before .before .before .before .before .before .before .before .pre .0) (c .before .before .before .before .before .before .before .before .before .before .before .pre .1) (omega arith)) (c .before .before .write-piece .ensures .0) (c .before .before .write-piece .ensures .1) (l .inv .4),
+    )
+
+same-length : tie.Need-same-length Inv-loop μ-loop
+same-length c = c .before .loop .inv .2
+
+returns : tie.Need-returns Inv-loop μ-loop
+returns c =
+    let name = nameIn (c .before .before .before .args .count) (c .before .before .before .args .bytes .now) in
+    let l = c .before .loop in
+    written-all (l .out) (c .before .before .before .args .out .now) (l .at) _ _ (text-end (pathOf name) (l .i) (omega (arith, length-path name))) (l .inv .4)
+
+pub write-text-spec : {M : Type 1} → statement M
+write-text-spec =
+    tie.close
+    (tie.spec
+    Inv-loop
+    μ-loop
+    loop-holds
+    mul-p
+    add-write-piece
+    element-copy-out-write-piece
+    add-write-piece-2
+    element-copy-out-write-piece-2
+    add-write-piece-3
+    element-copy-out-write-piece-3
+    add-write-piece-4
+    element-copy-out-write-piece-4
+    write-piece-requires
+    add-i
+    loop-less
+    loop-again
+    same-length
+    returns)

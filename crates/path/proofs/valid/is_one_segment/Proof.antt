@@ -1,0 +1,25 @@
+use mathlib.Core.Path.{_≡_, refl, sym, _∙_, ap}
+use Rattle.path.specs.Inside.{nameIn}
+use Rattle.path.proofs.Flags.{one-is, one-isnt}
+use borrow.Author.Needs.{needs}
+use native.Mathlib.Omega.{arith}
+use Rattle.path.proofs.valid.is_one_segment.Statement.{statement}
+use Rattle.path.proofs.valid.is_one_segment.Tie as tie
+
+element-copy-out-is-lead-name-char : tie.Need-element-copy-out-is-lead-name-char
+element-copy-out-is-lead-name-char c = search needs
+
+is-lead-name-char-requires : tie.Need-is-lead-name-char-requires
+is-lead-name-char-requires c κs = search needs
+
+returns : tie.Need-returns
+returns c =
+    c .is-lead-name-char .ensures ∙ one-is (nameIn (c .before .before .before .args .count) (c .before .before .before .args .bytes .now)) (c .before .before .before .pre .0) (c .before .before .before .pre .1) (c .before .before .if1 .taken)
+
+returns-2 : tie.Need-returns-2
+returns-2 c = one-isnt (nameIn (c .before .args .count) (c .before .args .bytes .now)) (c .if1 .left)
+
+pub is-one-segment-spec : {M : Type 1} → statement M
+is-one-segment-spec =
+    tie.close
+    (tie.spec element-copy-out-is-lead-name-char is-lead-name-char-requires returns returns-2)

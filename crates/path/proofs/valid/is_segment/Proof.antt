@@ -1,0 +1,50 @@
+use mathlib.Core.Path.{_≡_, refl, sym, _∙_, ap}
+use Rattle.name_object.specs.Component.{segOk}
+use borrow.Author.Needs.{needs}
+use native.Mathlib.Omega.{arith}
+use Rattle.path.proofs.valid.is_segment.Statement.{statement}
+use Rattle.path.proofs.valid.is_segment.Tie as tie
+
+is-lead-name-char-requires : tie.Need-is-lead-name-char-requires
+is-lead-name-char-requires c κs = search needs
+
+is-name-char-requires : tie.Need-is-name-char-requires
+is-name-char-requires c κs = search needs
+
+is-name-char-requires-2 : tie.Need-is-name-char-requires-2
+is-name-char-requires-2 c κs = search needs
+
+is-name-char-requires-3 : tie.Need-is-name-char-requires-3
+is-name-char-requires-3 c κs = search needs
+
+returns : tie.Need-returns
+unfolding segOk
+returns c =
+    rw (sym (c .before .before .before .before .before .before .is-lead-name-char .ensures) ∙ c .before .before .before .before .before .if1 .taken, sym (c .before .before .before .before .is-name-char .ensures) ∙ c .before .before .before .if2 .taken, sym (c .before .before .is-name-char2 .ensures) ∙ c .before .if3 .taken) (c .is-name-char3 .ensures)
+
+returns-2 : tie.Need-returns-2
+unfolding segOk
+returns-2 c =
+    rw (sym (c .before .before .before .before .before .is-lead-name-char .ensures) ∙ c .before .before .before .before .if1 .taken, sym (c .before .before .before .is-name-char .ensures) ∙ c .before .before .if2 .taken, sym (c .before .is-name-char2 .ensures) ∙ c .if3 .left)
+
+returns-3 : tie.Need-returns-3
+unfolding segOk
+returns-3 c =
+    rw (sym (c .before .before .before .is-lead-name-char .ensures) ∙ c .before .before .if1 .taken, sym (c .before .is-name-char .ensures) ∙ c .if2 .left)
+
+returns-4 : tie.Need-returns-4
+unfolding segOk
+returns-4 c = rw (sym (c .before .is-lead-name-char .ensures) ∙ c .if1 .left)
+
+pub is-segment-spec : {M : Type 1} → statement M
+is-segment-spec =
+    tie.close
+    (tie.spec
+    is-lead-name-char-requires
+    is-name-char-requires
+    is-name-char-requires-2
+    is-name-char-requires-3
+    returns
+    returns-2
+    returns-3
+    returns-4)

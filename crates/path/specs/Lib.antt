@@ -1,0 +1,4 @@
+pub mod Normal
+pub mod Text
+pub mod TextGrammar
+pub mod Inside

@@ -1,0 +1,139 @@
+// The tests of a path, on a count and bytes that are lent.
+ghost use mathlib.Core.Path.{_≡_};
+ghost use mathlib.Core.Bool.{true, false};
+ghost use Prim.Native.Nat.{_≤_};
+ghost use lib.Dec.{eqb};
+ghost use lib.ListN.{length, drop};
+ghost use Rattle.pkg_length.specs.Refusal.{pick};
+ghost use Rattle.name_object.specs.Component.{segOk, componentLimit};
+ghost use Rattle.name_object.specs.Memory.{allZero, bare, kindOk, pathOk, pathOf};
+ghost use Rattle.path.specs.Normal.{absolute, isNormal, oneSegment};
+ghost use Rattle.path.specs.Inside.{nameIn};
+
+// Four bytes are a segment: a lead, then three of lead or digit.
+pub(crate) fn is_segment(a: u8, b: u8, c: u8, d: u8) -> bool
+    ensures { λ r. ⌜ r ≡ segOk a b c d ⌝ }
+{
+    if name_object::is_lead_name_char(a) {
+        if name_object::is_name_char(b) {
+            if name_object::is_name_char(c) {
+                return name_object::is_name_char(d);
+            }
+        }
+    }
+    false
+}
+
+// Three bytes are zero.
+fn is_bare(b: u8, c: u8, d: u8) -> bool
+    ensures { λ r. ⌜ r ≡ bare b c d ⌝ }
+{
+    if b == 0 {
+        if c == 0 {
+            return d == 0;
+        }
+    }
+    false
+}
+
+// Four bytes are a component; the root only where it may stand.
+fn is_component(first: bool, a: u8, b: u8, c: u8, d: u8) -> bool
+    ensures { λ r. ⌜ r ≡ kindOk first a b c d ⌝ }
+{
+    if a == 0x5C {
+        if first {
+            return is_bare(b, c, d);
+        }
+        return false;
+    }
+    if a == 0x5E {
+        return is_bare(b, c, d);
+    }
+    is_segment(a, b, c, d)
+}
+
+// A spare byte more.
+fn is_clean(clean: bool, b: u8) -> bool
+    ensures { λ r. ⌜ r ≡ pick clean (eqb b 0) false ⌝ }
+{
+    if clean {
+        return b == 0;
+    }
+    false
+}
+
+// Every byte from an offset on is zero. All are looked at, so that many are taken at a time.
+fn is_zero_from(bytes: &[u8; 128], from: usize) -> bool
+    requires { ⌜ (from ≤ 128) × (length (now bytes) ≡ 128) ⌝ }
+    ensures { λ r. ⌜ r ≡ allZero (drop from (now (bytes .entry))) ⌝ }
+{
+    let mut clean = true;
+    let mut j = from;
+    while j < 128 {
+        clean = is_clean(clean, bytes[j]);
+        j += 1;
+    }
+    clean
+}
+
+// The test of 26, on a count and bytes.
+pub(crate) fn holds_path(count: usize, bytes: &[u8; 128]) -> bool
+    requires { ⌜ length (now bytes) ≡ 128 ⌝ }
+    ensures { λ r. ⌜ r ≡ pathOk componentLimit (nameIn count (now (bytes .entry))) ⌝ }
+{
+    if 32 < count {
+        return false;
+    }
+    let mut i = 0;
+    while i < count {
+        let at = 4 * i;
+        if is_component(
+            i == 0,
+            bytes[at],
+            bytes[at + 1],
+            bytes[at + 2],
+            bytes[at + 3],
+        ) {
+            i += 1;
+        } else {
+            return false;
+        }
+    }
+    is_zero_from(bytes, 4 * count)
+}
+
+// The root stands first.
+pub(crate) fn is_rooted(count: usize, bytes: &[u8; 128]) -> bool
+    ensures { λ r. ⌜ r ≡ absolute (pathOf (nameIn count (now (bytes .entry)))) ⌝ }
+{
+    if count == 0 {
+        return false;
+    }
+    bytes[0] == 0x5C
+}
+
+// No `^` in what is known to be a path.
+pub(crate) fn has_no_prefix(count: usize, bytes: &[u8; 128]) -> bool
+    requires { ⌜ (length (now bytes) ≡ 128) × (pathOk componentLimit (nameIn count (now bytes)) ≡ true) ⌝ }
+    ensures { λ r. ⌜ r ≡ isNormal (pathOf (nameIn count (now (bytes .entry)))) ⌝ }
+{
+    let mut i = 0;
+    while i < count {
+        if bytes[4 * i] == 0x5E {
+            return false;
+        }
+        i += 1;
+    }
+    true
+}
+
+// One component, a segment.
+pub(crate) fn is_one_segment(count: usize, bytes: &[u8; 128]) -> bool
+    requires { ⌜ (length (now bytes) ≡ 128) × (pathOk componentLimit (nameIn count (now bytes)) ≡ true) ⌝ }
+    ensures { λ r. ⌜ r ≡ oneSegment (pathOf (nameIn count (now (bytes .entry)))) ⌝ }
+{
+    if count == 1 {
+        return name_object::is_lead_name_char(bytes[0]);
+    }
+    false
+}

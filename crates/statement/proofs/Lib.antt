@@ -1,0 +1,10 @@
+pub mod Answers
+pub mod Tables
+pub mod Spelling
+pub mod Terms
+pub mod Statements
+mod Reaches
+pub mod Theorems
+mod Places
+mod Evals
+mod Runs

@@ -1,0 +1,691 @@
+-- Each return is one law of Evals; what a call requires is a part of what was read.
+use mathlib.Core.Path.{refl, sym, _∙_}
+use Prim.Native.Nat.{ℕ, _<_, _+_, _-_, _*_}
+use lib.ListN.{getD}
+use Rattle.statement.specs.Refusal.{readTerm}
+use Rattle.statement.specs.Lent.{framed}
+use Rattle.statement.proofs.Tables.{is-cell, op-cell, op-bytes}
+use Rattle.statement.proofs.Evals as evals
+use borrow.Author.Needs.{needs}
+use native.Mathlib.Omega.{arith}
+use borrow.Fn.Kinds.{In}
+use borrow.Fn.PlainCycle.{Measures, is, falls, and}
+use Rattle.statement.proofs.eval.eval.Reads as eval
+use Rattle.statement.proofs.eval.eval.Kinds as eval-kinds
+use Rattle.statement.proofs.eval.+eval+one+second+term_arg+two.Lts-eval as eval-lts
+use Rattle.statement.proofs.eval.one.Reads as one
+use Rattle.statement.proofs.eval.one.Kinds as one-kinds
+use Rattle.statement.proofs.eval.+eval+one+second+term_arg+two.Lts-one as one-lts
+use Rattle.statement.proofs.eval.second.Reads as second
+use Rattle.statement.proofs.eval.second.Kinds as second-kinds
+use Rattle.statement.proofs.eval.+eval+one+second+term_arg+two.Lts-second as second-lts
+use Rattle.statement.proofs.eval.term_arg.Reads as term-arg
+use Rattle.statement.proofs.eval.term_arg.Kinds as term-arg-kinds
+use Rattle.statement.proofs.eval.+eval+one+second+term_arg+two.Lts-term_arg as term-arg-lts
+use Rattle.statement.proofs.eval.two.Reads as two
+use Rattle.statement.proofs.eval.two.Kinds as two-kinds
+use Rattle.statement.proofs.eval.+eval+one+second+term_arg+two.Lts-two as two-lts
+use Rattle.pkg_length.proofs.inner.little_endian.Reads as little-endian-reads
+use Rattle.statement.proofs.eval.load_cell.Reads as load-cell-reads
+use Rattle.statement.proofs.eval.step_cell.Reads as step-cell-reads
+use Rattle.statement.proofs.eval.store.Reads as store-reads
+use Rattle.statement.proofs.eval.wide.Reads as wide-reads
+use Rattle.statement.proofs.number.binary.Reads as binary-reads
+use Rattle.statement.proofs.number.unary.Reads as unary-reads
+use Rattle.statement.proofs.opcode.is_cell.Reads as is-cell-reads
+use Rattle.statement.proofs.opcode.term_op.Reads as term-op-reads
+use Rattle.statement.proofs.eval.+eval+one+second+term_arg+two.{statement}
+use Rattle.statement.proofs.eval.+eval+one+second+term_arg+two.Tie.{close}
+
+abbrev μ-eval : Measures 3 eval-kinds.ps ℕ
+μ-eval κs a = 4 * a .1 .1 .0 + 1
+
+abbrev μ-one : Measures 3 one-kinds.ps ℕ
+μ-one κs a = 4 * a .1 .1 .0 + 2
+
+abbrev μ-second : Measures 3 second-kinds.ps ℕ
+μ-second κs a = 4 * a .1 .1 .0 + 2
+
+abbrev μ-term-arg : Measures 3 term-arg-kinds.ps ℕ
+μ-term-arg κs a = 4 * a .1 .1 .0
+
+abbrev μ-two : Measures 3 two-kinds.ps ℕ
+μ-two κs a = 4 * a .1 .1 .0 + 3
+
+abbrev eval-at : ℕ → In 3 eval-kinds.ps
+eval-at t = and 3 eval-kinds.ps (is 3 eval-kinds.ps μ-eval t) eval.Pre
+
+abbrev eval-below : ℕ → In 3 eval-kinds.ps
+eval-below t = and 3 eval-kinds.ps (falls 3 eval-kinds.ps _<_ μ-eval t) eval.Pre
+
+abbrev one-at : ℕ → In 3 one-kinds.ps
+one-at t = and 3 one-kinds.ps (is 3 one-kinds.ps μ-one t) one.Pre
+
+abbrev one-below : ℕ → In 3 one-kinds.ps
+one-below t = and 3 one-kinds.ps (falls 3 one-kinds.ps _<_ μ-one t) one.Pre
+
+abbrev second-at : ℕ → In 3 second-kinds.ps
+second-at t = and 3 second-kinds.ps (is 3 second-kinds.ps μ-second t) second.Pre
+
+abbrev second-below : ℕ → In 3 second-kinds.ps
+second-below t = and 3 second-kinds.ps (falls 3 second-kinds.ps _<_ μ-second t) second.Pre
+
+abbrev term-arg-at : ℕ → In 3 term-arg-kinds.ps
+term-arg-at t = and 3 term-arg-kinds.ps (is 3 term-arg-kinds.ps μ-term-arg t) term-arg.Pre
+
+abbrev term-arg-below : ℕ → In 3 term-arg-kinds.ps
+term-arg-below t =
+    and 3 term-arg-kinds.ps (falls 3 term-arg-kinds.ps _<_ μ-term-arg t) term-arg.Pre
+
+abbrev two-at : ℕ → In 3 two-kinds.ps
+two-at t = and 3 two-kinds.ps (is 3 two-kinds.ps μ-two t) two.Pre
+
+abbrev two-below : ℕ → In 3 two-kinds.ps
+two-below t = and 3 two-kinds.ps (falls 3 two-kinds.ps _<_ μ-two t) two.Pre
+
+abbrev eval-claims : ℕ → eval-lts.Claims
+eval-claims t = (is-cell-reads.Asked, is-cell-reads.Learnt, wide-reads.Asked, wide-reads.Learnt, load-cell-reads.Asked, load-cell-reads.Learnt, term-arg-below t, term-arg.Post)
+
+abbrev one-claims : ℕ → one-lts.Claims
+one-claims t = (eval-below t, eval.Post, unary-reads.Asked, unary-reads.Learnt, store-reads.Asked, store-reads.Learnt)
+
+abbrev second-claims : ℕ → second-lts.Claims
+second-claims t = (eval-below t, eval.Post, binary-reads.Asked, binary-reads.Learnt, store-reads.Asked, store-reads.Learnt)
+
+abbrev term-arg-claims : ℕ → term-arg-lts.Claims
+term-arg-claims t = (term-op-reads.Asked, term-op-reads.Learnt, little-endian-reads.Asked, little-endian-reads.Learnt, load-cell-reads.Asked, load-cell-reads.Learnt, wide-reads.Asked, wide-reads.Learnt, step-cell-reads.Asked, step-cell-reads.Learnt, one-below t, one.Post, two-below t, two.Post)
+
+abbrev two-claims : ℕ → two-lts.Claims
+two-claims t = (eval-below t, eval.Post, second-below t, second.Post)
+
+eval-shared-slice-read-b : (t : ℕ) → eval-lts.Need-shared-slice-read-b (eval-claims t) (eval-at t) eval.Post
+eval-shared-slice-read-b t c =
+    let a = c .before .before .args in
+    let s = a .part .now in
+    let acc = c .before .before .pre .1 .1 in
+    let g = framed (a .set .now) (a .val .now) in
+    omega (arith, evals.in-part (a .left) (a .at) s acc)
+
+eval-is-cell-requires : (t : ℕ) → eval-lts.Need-is-cell-requires (eval-claims t) (eval-at t) eval.Post
+eval-is-cell-requires t c κs = search needs
+
+eval-sub-wide : (t : ℕ) → eval-lts.Need-sub-wide (eval-claims t) (eval-at t) eval.Post
+eval-sub-wide t c =
+    let a = c .before .before .before .before .before .before .args in
+    let s = a .part .now in
+    let acc = c .before .before .before .before .before .before .pre .1 .1 in
+    let g = framed (a .set .now) (a .val .now) in
+    let cb = is-cell (getD s (a .at) 0) (sym (c .before .before .before .is-cell .ensures) ∙ c .before .before .if1 .taken) in
+    omega (arith, cb)
+
+eval-wide-requires : (t : ℕ) → eval-lts.Need-wide-requires (eval-claims t) (eval-at t) eval.Post
+eval-wide-requires t c κs = search needs
+
+eval-add-load-cell : (t : ℕ) → eval-lts.Need-add-load-cell (eval-claims t) (eval-at t) eval.Post
+eval-add-load-cell t c =
+    let a = c .before .before .before .before .before .before .before .args in
+    let s = a .part .now in
+    let acc = c .before .before .before .before .before .before .before .pre .1 .1 in
+    let g = framed (a .set .now) (a .val .now) in
+    omega (arith, evals.in-part (a .left) (a .at) s acc)
+
+eval-load-cell-requires : (t : ℕ) → eval-lts.Need-load-cell-requires (eval-claims t) (eval-at t) eval.Post
+eval-load-cell-requires t c κs =
+    let a = c .before .before .before .before .before .before .before .args in
+    let s = a .part .now in
+    let acc = c .before .before .before .before .before .before .before .pre .1 .1 in
+    let g = framed (a .set .now) (a .val .now) in
+    let cb = is-cell (getD s (a .at) 0) (sym (c .before .before .before .before .is-cell .ensures) ∙ c .before .before .before .if1 .taken) in
+    omega (arith, cb, c .wide .ensures)
+
+eval-term-arg-requires : (t : ℕ) → eval-lts.Need-term-arg-requires (eval-claims t) (eval-at t) eval.Post
+eval-term-arg-requires t c κs =
+    let a = c .before .before .before .before .before .before .args in
+    let s = a .part .now in
+    let acc = c .before .before .before .before .before .before .pre .1 .1 in
+    let g = framed (a .set .now) (a .val .now) in
+    (omega (arith, c .before .before .before .before .before .before .pre .0), c .before .before .before .before .before .before .pre .1)
+
+eval-returns : (t : ℕ) → eval-lts.Need-returns (eval-claims t) (eval-at t) eval.Post
+eval-returns t c =
+    let a = c .before .before .before .before .before .before .before .before .args in
+    let s = a .part .now in
+    let acc = c .before .before .before .before .before .before .before .before .pre .1 .1 in
+    let g = framed (a .set .now) (a .val .now) in
+    evals.cell-at-once (a .left) (a .at) s acc (sym (c .before .before .before .before .before .is-cell .ensures) ∙ c .before .before .before .before .if1 .taken) _ (c .before .wide .ensures) g _ (c .load-cell .ensures)
+
+eval-returns-2 : (t : ℕ) → eval-lts.Need-returns-2 (eval-claims t) (eval-at t) eval.Post
+eval-returns-2 t c = c .term-arg .ensures
+
+one-eval-requires : (t : ℕ) → one-lts.Need-eval-requires (one-claims t) (one-at t) one.Post
+one-eval-requires t c κs =
+    let a = c .before .before .before .args in
+    let s = a .part .now in
+    let acc = c .before .before .before .pre .1 .1 in
+    let g = framed (a .set .now) (a .val .now) in
+    (omega (arith, c .before .before .before .pre .0), (c .before .before .before .pre .1 .0, evals.one-term-acc (a .left) (a .at) s (a .d) acc))
+
+one-enum-known-a : (t : ℕ) → one-lts.Need-enum-known-a (one-claims t) (one-at t) one.Post
+one-enum-known-a t c = search needs
+
+one-enum-known-a-2 : (t : ℕ) → one-lts.Need-enum-known-a-2 (one-claims t) (one-at t) one.Post
+one-enum-known-a-2 t c = search needs
+
+one-unary-requires : (t : ℕ) → one-lts.Need-unary-requires (one-claims t) (one-at t) one.Post
+one-unary-requires t c κs = search needs
+
+one-store-requires : (t : ℕ) → one-lts.Need-store-requires (one-claims t) (one-at t) one.Post
+one-store-requires t c κs =
+    let a = c .before .before .before .before .before .before .before .before .before .before .args in
+    let s = a .part .now in
+    let acc = c .before .before .before .before .before .before .before .before .before .before .pre .1 .1 in
+    let g = framed (a .set .now) (a .val .now) in
+    let z = c .before .before .before .before .a2 .given in
+    let k = evals.one-dest-acc (a .left) (a .at) s (a .d) g _ (c .before .before .before .before .before .before .eval .ensures) acc (z .0 .0) (z .0 .1 .0) (z .1) in
+    (k .0, c .before .before .before .before .before .before .before .before .before .before .pre .1 .0, k .1)
+
+one-returns : (t : ℕ) → one-lts.Need-returns (one-claims t) (one-at t) one.Post
+one-returns t c =
+    let a = c .before .before .before .before .before .before .before .args in
+    let s = a .part .now in
+    let acc = c .before .before .before .before .before .before .before .pre .1 .1 in
+    let g = framed (a .set .now) (a .val .now) in
+    evals.one-missing (a .left) (a .at) s (a .d) g _ (c .before .before .before .eval .ensures) acc (a .op) _ (c .before .a .given .1)
+
+one-returns-2 : (t : ℕ) → one-lts.Need-returns-2 (one-claims t) (one-at t) one.Post
+one-returns-2 t c =
+    let a = c .before .before .before .before .before .before .before .before .before .before .before .args in
+    let s = a .part .now in
+    let acc = c .before .before .before .before .before .before .before .before .before .before .before .pre .1 .1 in
+    let g = framed (a .set .now) (a .val .now) in
+    let z = c .before .before .before .before .before .a2 .given in
+    evals.one-stored (a .left) (a .at) s (a .d) g _ (c .before .before .before .before .before .before .before .eval .ensures) acc (z .0 .0) (z .0 .1 .0) (z .1) _ _ (c .store .ensures) (a .op) (c .before .before .before .unary .ensures)
+
+second-eval-requires : (t : ℕ) → second-lts.Need-eval-requires (second-claims t) (second-at t) second.Post
+second-eval-requires t c κs =
+    let a = c .before .before .before .args in
+    let s = a .part .now in
+    let acc = c .before .before .before .pre .1 .1 in
+    let g = framed (a .set .now) (a .val .now) in
+    (omega (arith, c .before .before .before .pre .0), (c .before .before .before .pre .1 .0, evals.one-term-acc (a .left) (a .at) s (a .d) acc))
+
+second-enum-known-b : (t : ℕ) → second-lts.Need-enum-known-b (second-claims t) (second-at t) second.Post
+second-enum-known-b t c = search needs
+
+second-enum-known-b-2 : (t : ℕ) → second-lts.Need-enum-known-b-2 (second-claims t) (second-at t) second.Post
+second-enum-known-b-2 t c = search needs
+
+second-binary-requires : (t : ℕ) → second-lts.Need-binary-requires (second-claims t) (second-at t) second.Post
+second-binary-requires t c κs = search needs
+
+second-store-requires : (t : ℕ) → second-lts.Need-store-requires (second-claims t) (second-at t) second.Post
+second-store-requires t c κs =
+    let a = c .before .before .before .before .before .before .before .before .before .before .args in
+    let s = a .part .now in
+    let acc = c .before .before .before .before .before .before .before .before .before .before .pre .1 .1 in
+    let g = framed (a .set .now) (a .val .now) in
+    let z = c .before .before .before .before .b2 .given in
+    let k = evals.one-dest-acc (a .left) (a .at) s (a .d) g _ (c .before .before .before .before .before .before .eval .ensures) acc (z .0 .0) (z .0 .1 .0) (z .1) in
+    (k .0, c .before .before .before .before .before .before .before .before .before .before .pre .1 .0, k .1)
+
+second-returns : (t : ℕ) → second-lts.Need-returns (second-claims t) (second-at t) second.Post
+second-returns t c =
+    let a = c .before .before .before .before .before .before .before .args in
+    let s = a .part .now in
+    let acc = c .before .before .before .before .before .before .before .pre .1 .1 in
+    let g = framed (a .set .now) (a .val .now) in
+    evals.second-missing (a .left) (a .at) s (a .d) g _ (c .before .before .before .eval .ensures) acc (a .op) (a .n) _ (c .before .b .given .1)
+
+second-returns-2 : (t : ℕ) → second-lts.Need-returns-2 (second-claims t) (second-at t) second.Post
+second-returns-2 t c =
+    let c-pre = c .before .before .before .before .before .before .before .before .before .before .before .pre in
+    let c-eval = c .before .before .before .before .before .before .before .eval in
+    let c-b2 = c .before .before .before .before .before .b2 in
+    let a = c .before .before .before .before .before .before .before .before .before .before .before .args in
+    let s = a .part .now in
+    let acc = c-pre .1 .1 in
+    let g = framed (a .set .now) (a .val .now) in
+    let z = c-b2 .given in
+    evals.second-stored (a .left) (a .at) s (a .d) g _ (c-eval .ensures) acc (z .0 .0) (z .0 .1 .0) (z .1) _ _ (c .store .ensures) (a .op) (a .n)
+    (c .before .before .before .binary .ensures)
+
+term-arg-shared-slice-read-term-op : (t : ℕ) → term-arg-lts.Need-shared-slice-read-term-op (term-arg-claims t) (term-arg-at t) term-arg.Post
+term-arg-shared-slice-read-term-op t c =
+    let a = c .before .before .args in
+    let s = a .part .now in
+    let acc = c .before .before .pre .1 .1 in
+    let g = framed (a .set .now) (a .val .now) in
+    omega (arith, evals.in-part (a .left) (a .at) s acc)
+
+term-arg-term-op-requires : (t : ℕ) → term-arg-lts.Need-term-op-requires (term-arg-claims t) (term-arg-at t) term-arg.Post
+term-arg-term-op-requires t c κs = search needs
+
+term-arg-enum-known-op : (t : ℕ) → term-arg-lts.Need-enum-known-op (term-arg-claims t) (term-arg-at t) term-arg.Post
+term-arg-enum-known-op t c = search needs
+
+term-arg-add-t18 : (t : ℕ) → term-arg-lts.Need-add-t18 (term-arg-claims t) (term-arg-at t) term-arg.Post
+term-arg-add-t18 t c =
+    let a = c .before .before .before .before .before .before .args in
+    let s = a .part .now in
+    let acc = c .before .before .before .before .before .before .pre .1 .1 in
+    let g = framed (a .set .now) (a .val .now) in
+    omega (arith, evals.in-part (a .left) (a .at) s acc, c .before .before .before .before .before .before .pre .1 .0)
+
+term-arg-enum-told : (t : ℕ) → term-arg-lts.Need-enum-told (term-arg-claims t) (term-arg-at t) term-arg.Post
+term-arg-enum-told t c = search needs
+
+term-arg-add-t19 : (t : ℕ) → term-arg-lts.Need-add-t19 (term-arg-claims t) (term-arg-at t) term-arg.Post
+term-arg-add-t19 t c =
+    let a = c .before .before .before .before .before .args in
+    let s = a .part .now in
+    let acc = c .before .before .before .before .before .pre .1 .1 in
+    let g = framed (a .set .now) (a .val .now) in
+    omega (arith, evals.in-part (a .left) (a .at) s acc, c .before .before .before .before .before .pre .1 .0)
+
+term-arg-enum-known-op-2 : (t : ℕ) → term-arg-lts.Need-enum-known-op-2 (term-arg-claims t) (term-arg-at t) term-arg.Post
+term-arg-enum-known-op-2 t c = search needs
+
+term-arg-add-little-endian : (t : ℕ) → term-arg-lts.Need-add-little-endian (term-arg-claims t) (term-arg-at t) term-arg.Post
+term-arg-add-little-endian t c =
+    let a = c .before .before .before .before .before .before .args in
+    let s = a .part .now in
+    let acc = c .before .before .before .before .before .before .pre .1 .1 in
+    let g = framed (a .set .now) (a .val .now) in
+    omega (arith, evals.in-part (a .left) (a .at) s acc, c .before .before .before .before .before .before .pre .1 .0)
+
+term-arg-little-endian-requires : (t : ℕ) → term-arg-lts.Need-little-endian-requires (term-arg-claims t) (term-arg-at t) term-arg.Post
+term-arg-little-endian-requires t c κs =
+    let a = c .before .before .before .before .before .before .args in
+    let s = a .part .now in
+    let acc = c .before .before .before .before .before .before .pre .1 .1 in
+    let g = framed (a .set .now) (a .val .now) in
+    let ac = evals.acc-by (a .left) (a .at) s acc (c .before .before .before .term-op .result) _ (c .before .before .before .term-op .ensures) (c .before .op2 .given .1) in
+    let fit = evals.bytes-in (readTerm (a .left - 1)) (a .at) (c .before .op2 .given .0 .0) s ac (evals.in-part (a .left) (a .at) s acc) in
+    omega (arith, fit, op-bytes (getD s (a .at) 0) _ (sym (c .before .before .before .term-op .ensures) ∙ c .before .op2 .given .1))
+
+term-arg-add-t22 : (t : ℕ) → term-arg-lts.Need-add-t22 (term-arg-claims t) (term-arg-at t) term-arg.Post
+term-arg-add-t22 t c =
+    let a = c .before .before .before .before .before .before .before .args in
+    let s = a .part .now in
+    let acc = c .before .before .before .before .before .before .before .pre .1 .1 in
+    let g = framed (a .set .now) (a .val .now) in
+    omega (arith, evals.in-part (a .left) (a .at) s acc, c .before .before .before .before .before .before .before .pre .1 .0)
+
+term-arg-add-t23 : (t : ℕ) → term-arg-lts.Need-add-t23 (term-arg-claims t) (term-arg-at t) term-arg.Post
+term-arg-add-t23 t c =
+    let a = c .before .before .before .before .before .before .before .args in
+    let s = a .part .now in
+    let acc = c .before .before .before .before .before .before .before .pre .1 .1 in
+    let g = framed (a .set .now) (a .val .now) in
+    let ac = evals.acc-by (a .left) (a .at) s acc (c .before .before .before .before .term-op .result) _ (c .before .before .before .before .term-op .ensures) (c .before .before .op2 .given .1) in
+    let fit = evals.bytes-in (readTerm (a .left - 1)) (a .at) (c .before .before .op2 .given .0 .0) s ac (evals.in-part (a .left) (a .at) s acc) in
+    omega (arith, fit, c .before .before .before .before .before .before .before .pre .1 .0)
+
+term-arg-enum-known-op-3 : (t : ℕ) → term-arg-lts.Need-enum-known-op-3 (term-arg-claims t) (term-arg-at t) term-arg.Post
+term-arg-enum-known-op-3 t c = search needs
+
+term-arg-add-load-cell : (t : ℕ) → term-arg-lts.Need-add-load-cell (term-arg-claims t) (term-arg-at t) term-arg.Post
+term-arg-add-load-cell t c =
+    let a = c .before .before .before .before .before .before .before .before .args in
+    let s = a .part .now in
+    let acc = c .before .before .before .before .before .before .before .before .pre .1 .1 in
+    let g = framed (a .set .now) (a .val .now) in
+    omega (arith, evals.in-part (a .left) (a .at) s acc, c .before .before .before .before .before .before .before .before .pre .1 .0)
+
+term-arg-load-cell-requires : (t : ℕ) → term-arg-lts.Need-load-cell-requires (term-arg-claims t) (term-arg-at t) term-arg.Post
+term-arg-load-cell-requires t c κs =
+    let a = c .before .before .before .before .before .before .before .before .args in
+    let s = a .part .now in
+    let acc = c .before .before .before .before .before .before .before .before .pre .1 .1 in
+    let g = framed (a .set .now) (a .val .now) in
+    op-cell (getD s (a .at) 0) _ (sym (c .before .before .before .before .before .term-op .ensures) ∙ c .before .before .before .op3 .given .1) .2
+
+term-arg-enum-known-op-4 : (t : ℕ) → term-arg-lts.Need-enum-known-op-4 (term-arg-claims t) (term-arg-at t) term-arg.Post
+term-arg-enum-known-op-4 t c = search needs
+
+term-arg-add-wide : (t : ℕ) → term-arg-lts.Need-add-wide (term-arg-claims t) (term-arg-at t) term-arg.Post
+term-arg-add-wide t c =
+    let a = c .before .before .before .before .before .before .before .before .args in
+    let s = a .part .now in
+    let acc = c .before .before .before .before .before .before .before .before .pre .1 .1 in
+    let g = framed (a .set .now) (a .val .now) in
+    omega (arith, evals.in-part (a .left) (a .at) s acc, c .before .before .before .before .before .before .before .before .pre .1 .0)
+
+term-arg-shared-slice-read-wide : (t : ℕ) → term-arg-lts.Need-shared-slice-read-wide (term-arg-claims t) (term-arg-at t) term-arg.Post
+term-arg-shared-slice-read-wide t c =
+    let c-pre = c .before .before .before .before .before .before .before .before .before .pre in
+    let c-term-op = c .before .before .before .before .before .before .term-op in
+    let c-op4 = c .before .before .before .before .op4 in
+    let a = c .before .before .before .before .before .before .before .before .before .args in
+    let s = a .part .now in
+    let acc = c-pre .1 .1 in
+    let g = framed (a .set .now) (a .val .now) in
+    let ac = evals.acc-by (a .left) (a .at) s acc (c-term-op .result) _ (c-term-op .ensures) (c-op4 .given .1) in
+    let sa = evals.step-acc (readTerm (a .left - 1)) (a .at) s (c-op4 .given .0 .0) ac in
+    let lt = evals.cell-inside 1 (a .at + 1) s sa in
+    let cb = is-cell (getD s (a .at + 1) 0) (evals.cell-byte 1 (a .at + 1) s sa) in
+    omega (arith, lt)
+
+term-arg-sub-wide : (t : ℕ) → term-arg-lts.Need-sub-wide (term-arg-claims t) (term-arg-at t) term-arg.Post
+term-arg-sub-wide t c =
+    let c-pre = c .before .before .before .before .before .before .before .before .before .pre in
+    let c-term-op = c .before .before .before .before .before .before .term-op in
+    let c-op4 = c .before .before .before .before .op4 in
+    let a = c .before .before .before .before .before .before .before .before .before .args in
+    let s = a .part .now in
+    let acc = c-pre .1 .1 in
+    let g = framed (a .set .now) (a .val .now) in
+    let ac = evals.acc-by (a .left) (a .at) s acc (c-term-op .result) _ (c-term-op .ensures) (c-op4 .given .1) in
+    let sa = evals.step-acc (readTerm (a .left - 1)) (a .at) s (c-op4 .given .0 .0) ac in
+    let lt = evals.cell-inside 1 (a .at + 1) s sa in
+    let cb = is-cell (getD s (a .at + 1) 0) (evals.cell-byte 1 (a .at + 1) s sa) in
+    omega (arith, cb)
+
+term-arg-wide-requires : (t : ℕ) → term-arg-lts.Need-wide-requires (term-arg-claims t) (term-arg-at t) term-arg.Post
+term-arg-wide-requires t c κs = search needs
+
+term-arg-add-step-cell : (t : ℕ) → term-arg-lts.Need-add-step-cell (term-arg-claims t) (term-arg-at t) term-arg.Post
+term-arg-add-step-cell t c =
+    let c-pre = c .before .before .before .before .before .before .before .before .before .before .pre in
+    let c-term-op = c .before .before .before .before .before .before .before .term-op in
+    let c-op4 = c .before .before .before .before .before .op4 in
+    let a = c .before .before .before .before .before .before .before .before .before .before .args in
+    let s = a .part .now in
+    let acc = c-pre .1 .1 in
+    let g = framed (a .set .now) (a .val .now) in
+    let ac = evals.acc-by (a .left) (a .at) s acc (c-term-op .result) _ (c-term-op .ensures) (c-op4 .given .1) in
+    let sa = evals.step-acc (readTerm (a .left - 1)) (a .at) s (c-op4 .given .0 .0) ac in
+    let lt = evals.cell-inside 1 (a .at + 1) s sa in
+    let cb = is-cell (getD s (a .at + 1) 0) (evals.cell-byte 1 (a .at + 1) s sa) in
+    omega (arith, lt, c-pre .1 .0)
+
+term-arg-step-cell-requires : (t : ℕ) → term-arg-lts.Need-step-cell-requires (term-arg-claims t) (term-arg-at t) term-arg.Post
+term-arg-step-cell-requires t c κs =
+    let c-pre = c .before .before .before .before .before .before .before .before .before .before .pre in
+    let c-term-op = c .before .before .before .before .before .before .before .term-op in
+    let c-op4 = c .before .before .before .before .before .op4 in
+    let a = c .before .before .before .before .before .before .before .before .before .before .args in
+    let s = a .part .now in
+    let acc = c-pre .1 .1 in
+    let g = framed (a .set .now) (a .val .now) in
+    let ac = evals.acc-by (a .left) (a .at) s acc (c-term-op .result) _ (c-term-op .ensures) (c-op4 .given .1) in
+    let sa = evals.step-acc (readTerm (a .left - 1)) (a .at) s (c-op4 .given .0 .0) ac in
+    let lt = evals.cell-inside 1 (a .at + 1) s sa in
+    let cb = is-cell (getD s (a .at + 1) 0) (evals.cell-byte 1 (a .at + 1) s sa) in
+    omega (arith, cb, c .wide .ensures)
+
+term-arg-enum-known-op-5 : (t : ℕ) → term-arg-lts.Need-enum-known-op-5 (term-arg-claims t) (term-arg-at t) term-arg.Post
+term-arg-enum-known-op-5 t c = search needs
+
+term-arg-add-one : (t : ℕ) → term-arg-lts.Need-add-one (term-arg-claims t) (term-arg-at t) term-arg.Post
+term-arg-add-one t c =
+    let a = c .before .before .before .before .before .before .args in
+    let s = a .part .now in
+    let acc = c .before .before .before .before .before .before .pre .1 .1 in
+    let g = framed (a .set .now) (a .val .now) in
+    omega (arith, evals.in-part (a .left) (a .at) s acc, c .before .before .before .before .before .before .pre .1 .0)
+
+term-arg-sub-one : (t : ℕ) → term-arg-lts.Need-sub-one (term-arg-claims t) (term-arg-at t) term-arg.Post
+term-arg-sub-one t c =
+    let a = c .before .before .before .before .before .before .args in
+    let s = a .part .now in
+    let acc = c .before .before .before .before .before .before .pre .1 .1 in
+    let g = framed (a .set .now) (a .val .now) in
+    omega (arith, evals.left-some (a .left) (a .at) s acc)
+
+term-arg-one-requires : (t : ℕ) → term-arg-lts.Need-one-requires (term-arg-claims t) (term-arg-at t) term-arg.Post
+term-arg-one-requires t c κs =
+    let c-pre = c .before .before .before .before .before .before .before .before .pre in
+    let c-term-op = c .before .before .before .before .before .term-op in
+    let c-op5 = c .before .before .before .op5 in
+    let a = c .before .before .before .before .before .before .before .before .args in
+    let s = a .part .now in
+    let acc = c-pre .1 .1 in
+    let g = framed (a .set .now) (a .val .now) in
+    let ac = evals.acc-by (a .left) (a .at) s acc (c-term-op .result) _ (c-term-op .ensures) (c-op5 .given .1) in
+    let some = evals.left-some (a .left) (a .at) s acc in
+    (omega (arith, some, c-pre .0), (c-pre .1 .0, evals.operand-acc (a .left - 1) (a .at) s (c-op5 .given .0 .1 .0) (c-op5 .given .0 .0) ac))
+
+term-arg-enum-known-op-6 : (t : ℕ) → term-arg-lts.Need-enum-known-op-6 (term-arg-claims t) (term-arg-at t) term-arg.Post
+term-arg-enum-known-op-6 t c = search needs
+
+term-arg-add-two : (t : ℕ) → term-arg-lts.Need-add-two (term-arg-claims t) (term-arg-at t) term-arg.Post
+term-arg-add-two t c =
+    let a = c .before .before .before .before .before .before .args in
+    let s = a .part .now in
+    let acc = c .before .before .before .before .before .before .pre .1 .1 in
+    let g = framed (a .set .now) (a .val .now) in
+    omega (arith, evals.in-part (a .left) (a .at) s acc, c .before .before .before .before .before .before .pre .1 .0)
+
+term-arg-sub-two : (t : ℕ) → term-arg-lts.Need-sub-two (term-arg-claims t) (term-arg-at t) term-arg.Post
+term-arg-sub-two t c =
+    let a = c .before .before .before .before .before .before .args in
+    let s = a .part .now in
+    let acc = c .before .before .before .before .before .before .pre .1 .1 in
+    let g = framed (a .set .now) (a .val .now) in
+    omega (arith, evals.left-some (a .left) (a .at) s acc)
+
+term-arg-two-requires : (t : ℕ) → term-arg-lts.Need-two-requires (term-arg-claims t) (term-arg-at t) term-arg.Post
+term-arg-two-requires t c κs =
+    let c-pre = c .before .before .before .before .before .before .before .before .pre in
+    let c-term-op = c .before .before .before .before .before .term-op in
+    let c-op6 = c .before .before .before .op6 in
+    let a = c .before .before .before .before .before .before .before .before .args in
+    let s = a .part .now in
+    let acc = c-pre .1 .1 in
+    let g = framed (a .set .now) (a .val .now) in
+    let ac = evals.acc-by (a .left) (a .at) s acc (c-term-op .result) _ (c-term-op .ensures) (c-op6 .given .1) in
+    let some = evals.left-some (a .left) (a .at) s acc in
+    (omega (arith, some, c-pre .0), (c-pre .1 .0, evals.operands-acc (a .left - 1) (a .at) s (c-op6 .given .0 .1 .0) (c-op6 .given .0 .0) ac))
+
+term-arg-enum-told-2 : (t : ℕ) → term-arg-lts.Need-enum-told-2 (term-arg-claims t) (term-arg-at t) term-arg.Post
+term-arg-enum-told-2 t c = search needs
+
+term-arg-returns : (t : ℕ) → term-arg-lts.Need-returns (term-arg-claims t) (term-arg-at t) term-arg.Post
+term-arg-returns t c =
+    let a = c .before .before .before .before .before .before .args in
+    let s = a .part .now in
+    let acc = c .before .before .before .before .before .before .pre .1 .1 in
+    let g = framed (a .set .now) (a .val .now) in
+    evals.eval-arm (a .left) (a .at) s acc (c .before .before .before .term-op .result) _ (c .before .before .before .term-op .ensures) (c .before .op .given .1) g _ (evals.constant-val (a .at) (c .before .op .given .0 .0) g (search needs))
+
+term-arg-returns-2 : (t : ℕ) → term-arg-lts.Need-returns-2 (term-arg-claims t) (term-arg-at t) term-arg.Post
+term-arg-returns-2 t c =
+    let a = c .before .before .before .before .before .args in
+    let s = a .part .now in
+    let acc = c .before .before .before .before .before .pre .1 .1 in
+    let g = framed (a .set .now) (a .val .now) in
+    evals.eval-arm (a .left) (a .at) s acc (c .before .before .term-op .result) _ (c .before .before .term-op .ensures) (c .enum-told .given .1) g _ (evals.ones-val (a .at) _ g refl)
+
+term-arg-returns-3 : (t : ℕ) → term-arg-lts.Need-returns-3 (term-arg-claims t) (term-arg-at t) term-arg.Post
+term-arg-returns-3 t c =
+    let c-pre = c .before .before .before .before .before .before .before .pre in
+    let c-term-op = c .before .before .before .before .term-op in
+    let c-op2 = c .before .before .op2 in
+    let c-little-endian = c .little-endian in
+    let a = c .before .before .before .before .before .before .before .args in
+    let s = a .part .now in
+    let acc = c-pre .1 .1 in
+    let g = framed (a .set .now) (a .val .now) in
+    let ac = evals.acc-by (a .left) (a .at) s acc (c-term-op .result) _ (c-term-op .ensures) (c-op2 .given .1) in
+    evals.eval-arm (a .left) (a .at) s acc (c-term-op .result) _ (c-term-op .ensures) (c-op2 .given .1) g _
+    (evals.bytes-val (readTerm (a .left - 1)) (a .at) (c-op2 .given .0 .0) s ac (c-little-endian .result) g (c-little-endian .ensures) (search needs))
+
+term-arg-returns-4 : (t : ℕ) → term-arg-lts.Need-returns-4 (term-arg-claims t) (term-arg-at t) term-arg.Post
+term-arg-returns-4 t c =
+    let c-pre = c .before .before .before .before .before .before .before .before .before .pre in
+    let c-term-op = c .before .before .before .before .before .before .term-op in
+    let a = c .before .before .before .before .before .before .before .before .before .args in
+    let s = a .part .now in
+    let acc = c-pre .1 .1 in
+    let g = framed (a .set .now) (a .val .now) in
+    evals.eval-arm (a .left) (a .at) s acc (c-term-op .result) _ (c-term-op .ensures) (c .before .before .before .before .op3 .given .1) g _
+    (evals.cell-val (a .at) _ g _ (c .load-cell .ensures))
+
+term-arg-returns-5 : (t : ℕ) → term-arg-lts.Need-returns-5 (term-arg-claims t) (term-arg-at t) term-arg.Post
+term-arg-returns-5 t c =
+    let c-pre = c .before .before .before .before .before .before .before .before .before .before .before .pre in
+    let c-term-op = c .before .before .before .before .before .before .before .before .term-op in
+    let c-op4 = c .before .before .before .before .before .before .op4 in
+    let a = c .before .before .before .before .before .before .before .before .before .before .before .args in
+    let s = a .part .now in
+    let acc = c-pre .1 .1 in
+    let g = framed (a .set .now) (a .val .now) in
+    let ac = evals.acc-by (a .left) (a .at) s acc (c-term-op .result) _ (c-term-op .ensures) (c-op4 .given .1) in
+    evals.eval-arm (a .left) (a .at) s acc (c-term-op .result) _ (c-term-op .ensures) (c-op4 .given .1) g _
+    (evals.step-val (readTerm (a .left - 1)) (a .at) s (c-op4 .given .0 .0) ac g _ _ (c .before .wide .ensures) (c .step-cell .ensures))
+
+term-arg-returns-6 : (t : ℕ) → term-arg-lts.Need-returns-6 (term-arg-claims t) (term-arg-at t) term-arg.Post
+term-arg-returns-6 t c =
+    let c-pre = c .before .before .before .before .before .before .before .before .before .pre in
+    let c-term-op = c .before .before .before .before .before .before .term-op in
+    let c-op5 = c .before .before .before .before .op5 in
+    let a = c .before .before .before .before .before .before .before .before .before .args in
+    let s = a .part .now in
+    let acc = c-pre .1 .1 in
+    let g = framed (a .set .now) (a .val .now) in
+    let ac = evals.acc-by (a .left) (a .at) s acc (c-term-op .result) _ (c-term-op .ensures) (c-op5 .given .1) in
+    evals.eval-arm (a .left) (a .at) s acc (c-term-op .result) _ (c-term-op .ensures) (c-op5 .given .1) g _
+    (evals.operand-val (a .left - 1) (a .at) s (c-op5 .given .0 .1 .0) (c-op5 .given .0 .0) g _ (evals.operand-acc (a .left - 1) (a .at) s (c-op5 .given .0 .1 .0) (c-op5 .given .0 .0) ac) (c .one .ensures))
+
+term-arg-returns-7 : (t : ℕ) → term-arg-lts.Need-returns-7 (term-arg-claims t) (term-arg-at t) term-arg.Post
+term-arg-returns-7 t c =
+    let c-pre = c .before .before .before .before .before .before .before .before .before .pre in
+    let c-term-op = c .before .before .before .before .before .before .term-op in
+    let c-op6 = c .before .before .before .before .op6 in
+    let a = c .before .before .before .before .before .before .before .before .before .args in
+    let s = a .part .now in
+    let acc = c-pre .1 .1 in
+    let g = framed (a .set .now) (a .val .now) in
+    let ac = evals.acc-by (a .left) (a .at) s acc (c-term-op .result) _ (c-term-op .ensures) (c-op6 .given .1) in
+    evals.eval-arm (a .left) (a .at) s acc (c-term-op .result) _ (c-term-op .ensures) (c-op6 .given .1) g _
+    (evals.operands-val (a .left - 1) (a .at) s (c-op6 .given .0 .1 .0) (c-op6 .given .0 .0) g _ (evals.operands-acc (a .left - 1) (a .at) s (c-op6 .given .0 .1 .0) (c-op6 .given .0 .0) ac) (c .two .ensures))
+
+term-arg-returns-8 : (t : ℕ) → term-arg-lts.Need-returns-8 (term-arg-claims t) (term-arg-at t) term-arg.Post
+term-arg-returns-8 t c =
+    let a = c .before .before .before .before .before .args in
+    let s = a .part .now in
+    let acc = c .before .before .before .before .before .pre .1 .1 in
+    let g = framed (a .set .now) (a .val .now) in
+    let ac = evals.acc-by (a .left) (a .at) s acc (c .before .before .term-op .result) _ (c .before .before .term-op .ensures) (c .enum-told2 .given .1) in
+    absurd ac
+
+two-eval-requires : (t : ℕ) → two-lts.Need-eval-requires (two-claims t) (two-at t) two.Post
+two-eval-requires t c κs =
+    let a = c .before .before .before .args in
+    let s = a .part .now in
+    let acc = c .before .before .before .pre .1 .1 in
+    let g = framed (a .set .now) (a .val .now) in
+    (omega (arith, c .before .before .before .pre .0), (c .before .before .before .pre .1 .0, evals.two-term-acc (a .left) (a .at) s (a .d) acc))
+
+two-enum-known-a : (t : ℕ) → two-lts.Need-enum-known-a (two-claims t) (two-at t) two.Post
+two-enum-known-a t c = search needs
+
+two-enum-known-a-2 : (t : ℕ) → two-lts.Need-enum-known-a-2 (two-claims t) (two-at t) two.Post
+two-enum-known-a-2 t c = search needs
+
+two-second-requires : (t : ℕ) → two-lts.Need-second-requires (two-claims t) (two-at t) two.Post
+two-second-requires t c κs =
+    let c-pre = c .before .before .before .before .before .before .before .before .before .pre in
+    let c-eval = c .before .before .before .before .before .eval in
+    let a = c .before .before .before .before .before .before .before .before .before .args in
+    let s = a .part .now in
+    let acc = c-pre .1 .1 in
+    let g = framed (a .set .now) (a .val .now) in
+    let z = c .before .before .before .a2 .given in
+    (omega (arith, c-pre .0), (c-pre .1 .0, evals.two-second-acc (a .left) (a .at) s (a .d) g _ (c-eval .ensures) acc (z .0 .0) (z .0 .1 .0) (z .1)))
+
+two-returns : (t : ℕ) → two-lts.Need-returns (two-claims t) (two-at t) two.Post
+two-returns t c =
+    let a = c .before .before .before .before .before .before .before .args in
+    let s = a .part .now in
+    let acc = c .before .before .before .before .before .before .before .pre .1 .1 in
+    let g = framed (a .set .now) (a .val .now) in
+    evals.two-missing (a .left) (a .at) s (a .d) g _ (c .before .before .before .eval .ensures) acc (a .op) _ (c .before .a .given .1)
+
+two-returns-2 : (t : ℕ) → two-lts.Need-returns-2 (two-claims t) (two-at t) two.Post
+two-returns-2 t c =
+    let a = c .before .before .before .before .before .before .before .before .before .before .args in
+    let s = a .part .now in
+    let acc = c .before .before .before .before .before .before .before .before .before .before .pre .1 .1 in
+    let g = framed (a .set .now) (a .val .now) in
+    let z = c .before .before .before .before .a2 .given in
+    evals.two-second (a .left) (a .at) s (a .d) g _ (c .before .before .before .before .before .before .eval .ensures) acc (z .0 .0) (z .0 .1 .0) (z .1) (a .op) _ (c .second .ensures)
+
+pub +eval+one+second+term-arg+two-spec : {M : Type 1} → statement M
++eval+one+second+term-arg+two-spec =
+    close μ-eval μ-one μ-second μ-term-arg μ-two (λ t. eval-lts.spec (eval-claims t) (eval-at t) eval.Post
+    (eval-shared-slice-read-b t)
+    (eval-is-cell-requires t)
+    (eval-sub-wide t)
+    (eval-wide-requires t)
+    (eval-add-load-cell t)
+    (eval-load-cell-requires t)
+    (eval-term-arg-requires t)
+    (eval-returns t)
+    (eval-returns-2 t))
+    (λ t. one-lts.spec (one-claims t) (one-at t) one.Post
+    (one-eval-requires t)
+    (one-enum-known-a t)
+    (one-enum-known-a-2 t)
+    (one-unary-requires t)
+    (one-store-requires t)
+    (one-returns t)
+    (one-returns-2 t))
+    (λ t. second-lts.spec (second-claims t) (second-at t) second.Post
+    (second-eval-requires t)
+    (second-enum-known-b t)
+    (second-enum-known-b-2 t)
+    (second-binary-requires t)
+    (second-store-requires t)
+    (second-returns t)
+    (second-returns-2 t))
+    (λ t. term-arg-lts.spec (term-arg-claims t) (term-arg-at t) term-arg.Post
+    (term-arg-shared-slice-read-term-op t)
+    (term-arg-term-op-requires t)
+    (term-arg-enum-known-op t)
+    (term-arg-add-t18 t)
+    (term-arg-enum-told t)
+    (term-arg-add-t19 t)
+    (term-arg-enum-known-op-2 t)
+    (term-arg-add-little-endian t)
+    (term-arg-little-endian-requires t)
+    (term-arg-add-t22 t)
+    (term-arg-add-t23 t)
+    (term-arg-enum-known-op-3 t)
+    (term-arg-add-load-cell t)
+    (term-arg-load-cell-requires t)
+    (term-arg-enum-known-op-4 t)
+    (term-arg-add-wide t)
+    (term-arg-shared-slice-read-wide t)
+    (term-arg-sub-wide t)
+    (term-arg-wide-requires t)
+    (term-arg-add-step-cell t)
+    (term-arg-step-cell-requires t)
+    (term-arg-enum-known-op-5 t)
+    (term-arg-add-one t)
+    (term-arg-sub-one t)
+    (term-arg-one-requires t)
+    (term-arg-enum-known-op-6 t)
+    (term-arg-add-two t)
+    (term-arg-sub-two t)
+    (term-arg-two-requires t)
+    (term-arg-enum-told-2 t)
+    (term-arg-returns t)
+    (term-arg-returns-2 t)
+    (term-arg-returns-3 t)
+    (term-arg-returns-4 t)
+    (term-arg-returns-5 t)
+    (term-arg-returns-6 t)
+    (term-arg-returns-7 t)
+    (term-arg-returns-8 t))
+    λ t. two-lts.spec
+    (eval-below t, eval.Post, second-below t, second.Post)
+    (two-at t)
+    two.Post
+    (two-eval-requires t)
+    (two-enum-known-a t)
+    (two-enum-known-a-2 t)
+    (two-second-requires t)
+    (two-returns t)
+    (two-returns-2 t)

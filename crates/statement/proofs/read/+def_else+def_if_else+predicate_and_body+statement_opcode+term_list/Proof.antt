@@ -1,0 +1,700 @@
+-- Each return is one law of Reaches. A list's loop holds that what is left reads as the whole does. Calls fall by the depths left alone.
+use mathlib.Core.Path.{_≡_, refl, sym, _∙_, ap}
+use Prim.Native.Nat.{ℕ, _<_, _≤_, _+_, _-_, _*_}
+use lib.ListN.{length, drop, length-take, length-drop}
+use Rattle.pkg_length.specs.Pkg.{rawSaid}
+use Rattle.statement.specs.Reading.{Stmt, return}
+use Rattle.statement.specs.Grammar.{depthLimit}
+use Rattle.statement.specs.Refusal.{readTerm, readList, readIf, readHead, whileOf}
+use Rattle.statement.specs.Said.{reached, upTo}
+use Rattle.statement.proofs.Reaches as reaches
+use borrow.Author.Needs.{needs}
+use native.Mathlib.Omega.{arith}
+use borrow.Fn.Kinds.{In}
+use borrow.Fn.PlainCycle.{Measures, is, falls, and}
+use Rattle.statement.proofs.read.def_else.Reads as def-else
+use Rattle.statement.proofs.read.def_else.Kinds as def-else-kinds
+use Rattle.statement.proofs.read.+def_else+def_if_else+predicate_and_body+statement_opcode+term_list.Lts-def_else as def-else-lts
+use Rattle.statement.proofs.read.def_if_else.Reads as def-if-else
+use Rattle.statement.proofs.read.def_if_else.Kinds as def-if-else-kinds
+use Rattle.statement.proofs.read.+def_else+def_if_else+predicate_and_body+statement_opcode+term_list.Lts-def_if_else as def-if-else-lts
+use Rattle.statement.proofs.read.predicate_and_body.Reads as predicate-and-body
+use Rattle.statement.proofs.read.predicate_and_body.Kinds as predicate-and-body-kinds
+use Rattle.statement.proofs.read.+def_else+def_if_else+predicate_and_body+statement_opcode+term_list.Lts-predicate_and_body as predicate-and-body-lts
+use Rattle.statement.proofs.read.statement_opcode.Reads as statement-opcode
+use Rattle.statement.proofs.read.statement_opcode.Kinds as statement-opcode-kinds
+use Rattle.statement.proofs.read.+def_else+def_if_else+predicate_and_body+statement_opcode+term_list.Lts-statement_opcode as statement-opcode-lts
+use Rattle.statement.proofs.read.term_list.Reads as term-list
+use Rattle.statement.proofs.read.term_list.Kinds as term-list-kinds
+use Rattle.statement.proofs.read.+def_else+def_if_else+predicate_and_body+statement_opcode+term_list.Lts-term_list as term-list-lts
+use Rattle.statement.proofs.opcode.stmt_op.Reads as stmt-op-reads
+use Rattle.statement.proofs.read.expression_opcode.Reads as expression-opcode-reads
+use Rattle.statement.proofs.read.pkg.Reads as pkg-reads
+use Rattle.statement.proofs.term.term_arg.Reads as term-arg-reads
+use Rattle.statement.proofs.read.+def_else+def_if_else+predicate_and_body+statement_opcode+term_list.{
+  statement,
+}
+use Rattle.statement.proofs.read.+def_else+def_if_else+predicate_and_body+statement_opcode+term_list.Tie.{
+  close,
+}
+
+abbrev μ-def-else : Measures 1 def-else-kinds.ps ℕ
+μ-def-else κs a = 4 * a .1 .1 .1 .0 + 2
+
+abbrev μ-def-if-else : Measures 1 def-if-else-kinds.ps ℕ
+μ-def-if-else κs a = 4 * a .1 .1 .1 .0 + 3
+
+abbrev μ-predicate-and-body : Measures 1 predicate-and-body-kinds.ps ℕ
+μ-predicate-and-body κs a = 4 * a .1 .1 .1 .0 + 2
+
+abbrev μ-statement-opcode : Measures 1 statement-opcode-kinds.ps ℕ
+μ-statement-opcode κs a = 4 * a .1 .1 .1 .0
+
+abbrev μ-term-list : Measures 1 term-list-kinds.ps ℕ
+μ-term-list κs a = 4 * a .1 .1 .0 + 1
+
+abbrev def-else-at : ℕ → In 1 def-else-kinds.ps
+def-else-at t = and 1 def-else-kinds.ps (is 1 def-else-kinds.ps μ-def-else t) def-else.Pre
+
+abbrev def-else-below : ℕ → In 1 def-else-kinds.ps
+def-else-below t =
+    and 1 def-else-kinds.ps (falls 1 def-else-kinds.ps _<_ μ-def-else t) def-else.Pre
+
+abbrev def-if-else-at : ℕ → In 1 def-if-else-kinds.ps
+def-if-else-at t =
+    and 1 def-if-else-kinds.ps (is 1 def-if-else-kinds.ps μ-def-if-else t) def-if-else.Pre
+
+abbrev def-if-else-below : ℕ → In 1 def-if-else-kinds.ps
+def-if-else-below t =
+    and 1 def-if-else-kinds.ps (falls 1 def-if-else-kinds.ps _<_ μ-def-if-else t) def-if-else.Pre
+
+abbrev predicate-and-body-at : ℕ → In 1 predicate-and-body-kinds.ps
+predicate-and-body-at t =
+    and
+    1
+    predicate-and-body-kinds.ps
+    (is 1 predicate-and-body-kinds.ps μ-predicate-and-body t)
+    predicate-and-body.Pre
+
+abbrev predicate-and-body-below : ℕ → In 1 predicate-and-body-kinds.ps
+predicate-and-body-below t =
+    and
+    1
+    predicate-and-body-kinds.ps
+    (falls 1 predicate-and-body-kinds.ps _<_ μ-predicate-and-body t)
+    predicate-and-body.Pre
+
+abbrev statement-opcode-at : ℕ → In 1 statement-opcode-kinds.ps
+statement-opcode-at t =
+    and
+    1
+    statement-opcode-kinds.ps
+    (is 1 statement-opcode-kinds.ps μ-statement-opcode t)
+    statement-opcode.Pre
+
+abbrev statement-opcode-below : ℕ → In 1 statement-opcode-kinds.ps
+statement-opcode-below t =
+    and
+    1
+    statement-opcode-kinds.ps
+    (falls 1 statement-opcode-kinds.ps _<_ μ-statement-opcode t)
+    statement-opcode.Pre
+
+abbrev term-list-at : ℕ → In 1 term-list-kinds.ps
+term-list-at t = and 1 term-list-kinds.ps (is 1 term-list-kinds.ps μ-term-list t) term-list.Pre
+
+abbrev term-list-below : ℕ → In 1 term-list-kinds.ps
+term-list-below t =
+    and 1 term-list-kinds.ps (falls 1 term-list-kinds.ps _<_ μ-term-list t) term-list.Pre
+
+abbrev def-else-claims : ℕ → def-else-lts.Claims
+def-else-claims t = (pkg-reads.Asked, pkg-reads.Learnt, term-list-below t, term-list.Post)
+
+abbrev def-if-else-claims : ℕ → def-if-else-lts.Claims
+def-if-else-claims t = (predicate-and-body-below t, predicate-and-body.Post, def-else-below t, def-else.Post)
+
+abbrev predicate-and-body-claims : ℕ → predicate-and-body-lts.Claims
+predicate-and-body-claims t = (pkg-reads.Asked, pkg-reads.Learnt, term-arg-reads.Asked, term-arg-reads.Learnt, term-list-below t, term-list.Post)
+
+abbrev statement-opcode-claims : ℕ → statement-opcode-lts.Claims
+statement-opcode-claims t = (stmt-op-reads.Asked, stmt-op-reads.Learnt, term-arg-reads.Asked, term-arg-reads.Learnt, def-if-else-below t, def-if-else.Post, predicate-and-body-below t, predicate-and-body.Post, expression-opcode-reads.Asked, expression-opcode-reads.Learnt)
+
+abbrev term-list-claims : ℕ → term-list-lts.Claims
+term-list-claims t = (statement-opcode-below t, statement-opcode.Post)
+
+def-else-returns : (t : ℕ) → def-else-lts.Need-returns (def-else-claims t) (def-else-at t) def-else.Post
+def-else-returns t c =
+    let a = c .before .before .args in reaches.else-end (a .left) (a .base + a .at) (a .at) (a .part .now) (c .if1 .taken)
+
+def-else-shared-slice-read-if2 : (t : ℕ) → def-else-lts.Need-shared-slice-read-if2 (def-else-claims t) (def-else-at t) def-else.Post
+def-else-shared-slice-read-if2 t c = search needs
+
+def-else-returns-2 : (t : ℕ) → def-else-lts.Need-returns-2 (def-else-claims t) (def-else-at t) def-else.Post
+def-else-returns-2 t c =
+    let a = c .before .before .before .before .args in reaches.else-other (a .left) (a .base + a .at) (a .at) (a .part .now) (c .before .before .if1 .left) (c .if2 .taken)
+
+def-else-add-pkg : (t : ℕ) → def-else-lts.Need-add-pkg (def-else-claims t) (def-else-at t) def-else.Post
+def-else-add-pkg t c = search needs
+
+def-else-pkg-requires : (t : ℕ) → def-else-lts.Need-pkg-requires (def-else-claims t) (def-else-at t) def-else.Post
+def-else-pkg-requires t c κs = search needs
+
+def-else-enum-known-w : (t : ℕ) → def-else-lts.Need-enum-known-w (def-else-claims t) (def-else-at t) def-else.Post
+def-else-enum-known-w t c = search needs
+
+def-else-enum-known-w-2 : (t : ℕ) → def-else-lts.Need-enum-known-w-2 (def-else-claims t) (def-else-at t) def-else.Post
+def-else-enum-known-w-2 t c = search needs
+
+def-else-add-body : (t : ℕ) → def-else-lts.Need-add-body (def-else-claims t) (def-else-at t) def-else.Post
+def-else-add-body t c = search needs
+
+def-else-add-body-2 : (t : ℕ) → def-else-lts.Need-add-body-2 (def-else-claims t) (def-else-at t) def-else.Post
+def-else-add-body-2 t c =
+    let a = c .before .before .before .before .before .before .before .before .args in let n = c .before .w2 .given .0 .0 in
+    let u = c .before .w2 .given .0 .1 .0 in
+    let ew = sym (ap rawSaid (c .before .w2 .given .1)) ∙ c .before .before .before .pkg .ensures in
+    let lt : a .at < length (a .part .now) = c .before .before .before .before .before .before .if1 .left in
+    let pk = reaches.package-in (a .base + (a .at + 1)) (a .at + 1) (a .part .now) n u ew (omega arith) in
+    omega (arith, pk, c .before .before .before .before .before .before .before .before .pre .1)
+
+def-else-add-end : (t : ℕ) → def-else-lts.Need-add-end (def-else-claims t) (def-else-at t) def-else.Post
+def-else-add-end t c = search needs
+
+def-else-add-end-2 : (t : ℕ) → def-else-lts.Need-add-end-2 (def-else-claims t) (def-else-at t) def-else.Post
+def-else-add-end-2 t c =
+    let a = c .before .before .before .before .before .before .before .before .args in let n = c .before .w2 .given .0 .0 in
+    let u = c .before .w2 .given .0 .1 .0 in
+    let ew = sym (ap rawSaid (c .before .w2 .given .1)) ∙ c .before .before .before .pkg .ensures in
+    let lt : a .at < length (a .part .now) = c .before .before .before .before .before .before .if1 .left in
+    let pk = reaches.package-in (a .base + (a .at + 1)) (a .at + 1) (a .part .now) n u ew (omega arith) in
+    omega (arith, pk, c .before .before .before .before .before .before .before .before .pre .1)
+
+def-else-sub-term-list : (t : ℕ) → def-else-lts.Need-sub-term-list (def-else-claims t) (def-else-at t) def-else.Post
+def-else-sub-term-list t c =
+    let a = c .before .before .before .before .before .before .before .before .args in let n = c .before .w2 .given .0 .0 in
+    let u = c .before .w2 .given .0 .1 .0 in
+    let ew = sym (ap rawSaid (c .before .w2 .given .1)) ∙ c .before .before .before .pkg .ensures in
+    let lt : a .at < length (a .part .now) = c .before .before .before .before .before .before .if1 .left in
+    let pk = reaches.package-in (a .base + (a .at + 1)) (a .at + 1) (a .part .now) n u ew (omega arith) in
+    omega (arith, pk, c .before .before .before .before .before .before .before .before .pre .1)
+
+def-else-part-term-list-start : (t : ℕ) → def-else-lts.Need-part-term-list-start (def-else-claims t) (def-else-at t) def-else.Post
+def-else-part-term-list-start t c =
+    let a = c .before .before .before .before .before .before .before .before .args in let n = c .before .w2 .given .0 .0 in
+    let u = c .before .w2 .given .0 .1 .0 in
+    let ew = sym (ap rawSaid (c .before .w2 .given .1)) ∙ c .before .before .before .pkg .ensures in
+    let lt : a .at < length (a .part .now) = c .before .before .before .before .before .before .if1 .left in
+    let pk = reaches.package-in (a .base + (a .at + 1)) (a .at + 1) (a .part .now) n u ew (omega arith) in
+    omega (arith, pk, c .before .before .before .before .before .before .before .before .pre .1)
+
+def-else-part-term-list-end : (t : ℕ) → def-else-lts.Need-part-term-list-end (def-else-claims t) (def-else-at t) def-else.Post
+def-else-part-term-list-end t c =
+    let a = c .before .before .before .before .before .before .before .before .args in let n = c .before .w2 .given .0 .0 in
+    let u = c .before .w2 .given .0 .1 .0 in
+    let ew = sym (ap rawSaid (c .before .w2 .given .1)) ∙ c .before .before .before .pkg .ensures in
+    let lt : a .at < length (a .part .now) = c .before .before .before .before .before .before .if1 .left in
+    let pk = reaches.package-in (a .base + (a .at + 1)) (a .at + 1) (a .part .now) n u ew (omega arith) in
+    omega (arith, pk, c .before .before .before .before .before .before .before .before .pre .1)
+
+def-else-add-term-list : (t : ℕ) → def-else-lts.Need-add-term-list (def-else-claims t) (def-else-at t) def-else.Post
+def-else-add-term-list t c =
+    let a = c .before .before .before .before .before .before .before .before .before .args in let n = c .before .before .w2 .given .0 .0 in
+    let u = c .before .before .w2 .given .0 .1 .0 in
+    let ew = sym (ap rawSaid (c .before .before .w2 .given .1)) ∙ c .before .before .before .before .pkg .ensures in
+    let lt : a .at < length (a .part .now) = c .before .before .before .before .before .before .before .if1 .left in
+    let pk = reaches.package-in (a .base + (a .at + 1)) (a .at + 1) (a .part .now) n u ew (omega arith) in
+    omega (arith, pk, c .before .before .before .before .before .before .before .before .before .pre .1)
+
+def-else-term-list-requires : (t : ℕ) → def-else-lts.Need-term-list-requires (def-else-claims t) (def-else-at t) def-else.Post
+def-else-term-list-requires t c κs =
+    let a = c .before .before .before .before .before .before .before .before .before .args in let n = c .before .before .w2 .given .0 .0 in
+    let u = c .before .before .w2 .given .0 .1 .0 in
+    let ew = sym (ap rawSaid (c .before .before .w2 .given .1)) ∙ c .before .before .before .before .pkg .ensures in
+    let lt : a .at < length (a .part .now) = c .before .before .before .before .before .before .before .if1 .left in
+    let pk = reaches.package-in (a .base + (a .at + 1)) (a .at + 1) (a .part .now) n u ew (omega arith) in
+    let b = a .at + 1 + u in
+    omega (arith, pk, c .before .before .before .before .before .before .before .before .before .pre, length-take (a .at + 1 + n - b) (drop b (a .part .now)), length-drop b (a .part .now))
+
+def-else-enum-told : (t : ℕ) → def-else-lts.Need-enum-told (def-else-claims t) (def-else-at t) def-else.Post
+def-else-enum-told t c = search needs
+
+def-else-enum-told-2 : (t : ℕ) → def-else-lts.Need-enum-told-2 (def-else-claims t) (def-else-at t) def-else.Post
+def-else-enum-told-2 t c = search needs
+
+def-else-returns-3 : (t : ℕ) → def-else-lts.Need-returns-3 (def-else-claims t) (def-else-at t) def-else.Post
+def-else-returns-3 t c =
+    let c-if1 = c .before .before .before .before .before .before .if1 in
+    let a = c .before .before .before .before .before .before .before .before .args in
+    reaches.else-no-package (a .left) (a .base) (a .at) (a .part .now) (c-if1 .left) (c .before .before .before .before .if2 .left) _ _
+    (sym (ap rawSaid (c .before .w .given .1)) ∙ c .before .before .before .pkg .ensures)
+
+def-else-returns-4 : (t : ℕ) → def-else-lts.Need-returns-4 (def-else-claims t) (def-else-at t) def-else.Post
+def-else-returns-4 t c =
+    let c-if1 = c .before .before .before .before .before .before .before .before .before .before .if1 in
+    let c-if2 = c .before .before .before .before .before .before .before .before .if2 in
+    let c-pkg = c .before .before .before .before .before .before .before .pkg in
+    let c-w2 = c .before .before .before .before .before .w2 in
+    let c-enum-told = c .enum-told in
+    let a = c .before .before .before .before .before .before .before .before .before .before .before .before .args in
+    let n = c-w2 .given .0 .0 in
+    let u = c-w2 .given .0 .1 .0 in
+    let ew = sym (ap rawSaid (c-w2 .given .1)) ∙ c-pkg .ensures in
+    let lt : a .at < length (a .part .now) = c-if1 .left in
+    let pk = reaches.package-in (a .base + (a .at + 1)) (a .at + 1) (a .part .now) n u ew (omega arith) in
+    ap reached (c-enum-told .given .1) ∙ reaches.else-no-body (a .left) (a .base) (a .at) (a .part .now) lt (c-if2 .left) n u ew _ _
+    (sym (ap reached (c-enum-told .given .1)) ∙ c .before .before .term-list .ensures)
+
+def-else-returns-5 : (t : ℕ) → def-else-lts.Need-returns-5 (def-else-claims t) (def-else-at t) def-else.Post
+def-else-returns-5 t c =
+    let a = c .before .before .before .before .before .before .before .before .before .before .before .before .args in let n = c .before .before .before .before .before .w2 .given .0 .0 in
+    let u = c .before .before .before .before .before .w2 .given .0 .1 .0 in
+    let ew = sym (ap rawSaid (c .before .before .before .before .before .w2 .given .1)) ∙ c .before .before .before .before .before .before .before .pkg .ensures in
+    let lt : a .at < length (a .part .now) = c .before .before .before .before .before .before .before .before .before .before .if1 .left in
+    let pk = reaches.package-in (a .base + (a .at + 1)) (a .at + 1) (a .part .now) n u ew (omega arith) in
+    reaches.else-body (a .left) (a .base) (a .at) (a .part .now) lt (c .before .before .before .before .before .before .before .before .if2 .left) n u ew _ (sym (ap reached (c .enum-told2 .given .1)) ∙ c .before .before .term-list .ensures)
+
+def-if-else-predicate-and-body-requires :
+    (t : ℕ) → def-if-else-lts.Need-predicate-and-body-requires (def-if-else-claims t) (def-if-else-at t) def-if-else.Post
+def-if-else-predicate-and-body-requires t c κs = search needs
+
+def-if-else-enum-told : (t : ℕ) → def-if-else-lts.Need-enum-told (def-if-else-claims t) (def-if-else-at t) def-if-else.Post
+def-if-else-enum-told t c = search needs
+
+def-if-else-enum-known-h : (t : ℕ) → def-if-else-lts.Need-enum-known-h (def-if-else-claims t) (def-if-else-at t) def-if-else.Post
+def-if-else-enum-known-h t c = search needs
+
+def-if-else-def-else-requires : (t : ℕ) → def-if-else-lts.Need-def-else-requires (def-if-else-claims t) (def-if-else-at t) def-if-else.Post
+def-if-else-def-else-requires t c κs =
+    let c-pre = c .before .before .before .before .before .pre in
+    let c-predicate-and-body = c .before .before .before .predicate-and-body in
+    let c-h = c .before .h in
+    let a = c .before .before .before .before .before .args in
+    omega (arith, reaches.head-in (a .left) (a .base) (a .at) (a .part .now) (c-h .given .0 .0) (c-pre .1 .0) (sym (ap reached (c-h .given .1)) ∙ c-predicate-and-body .ensures), c-pre)
+
+def-if-else-returns : (t : ℕ) → def-if-else-lts.Need-returns (def-if-else-claims t) (def-if-else-at t) def-if-else.Post
+def-if-else-returns t c =
+    let c-enum-told = c .enum-told in
+    let a = c .before .before .before .before .args in
+    ap reached (c-enum-told .given .1) ∙ reaches.if-no-head (a .left) (a .base) (a .at) (a .part .now) _ _
+    (sym (ap reached (c-enum-told .given .1)) ∙ c .before .before .predicate-and-body .ensures)
+
+def-if-else-returns-2 : (t : ℕ) → def-if-else-lts.Need-returns-2 (def-if-else-claims t) (def-if-else-at t) def-if-else.Post
+def-if-else-returns-2 t c =
+    let c-predicate-and-body = c .before .before .before .before .predicate-and-body in
+    let c-h = c .before .before .h in
+    let a = c .before .before .before .before .before .before .args in
+    reaches.if-else (a .left) (a .base) (a .at) (a .part .now) (c-h .given .0 .0) (sym (ap reached (c-h .given .1)) ∙ c-predicate-and-body .ensures) _
+    (c .def-else .ensures)
+
+predicate-and-body-pkg-requires : (t : ℕ) → predicate-and-body-lts.Need-pkg-requires (predicate-and-body-claims t) (predicate-and-body-at t) predicate-and-body.Post
+predicate-and-body-pkg-requires t c κs = search needs
+
+predicate-and-body-enum-known-w : (t : ℕ) → predicate-and-body-lts.Need-enum-known-w (predicate-and-body-claims t) (predicate-and-body-at t) predicate-and-body.Post
+predicate-and-body-enum-known-w t c = search needs
+
+predicate-and-body-enum-known-w-2 : (t : ℕ) → predicate-and-body-lts.Need-enum-known-w-2 (predicate-and-body-claims t) (predicate-and-body-at t) predicate-and-body.Post
+predicate-and-body-enum-known-w-2 t c = search needs
+
+predicate-and-body-add-term-arg : (t : ℕ) → predicate-and-body-lts.Need-add-term-arg (predicate-and-body-claims t) (predicate-and-body-at t) predicate-and-body.Post
+predicate-and-body-add-term-arg t c =
+    let a = c .before .before .before .before .before .args in let n = c .before .w2 .given .0 .0 in
+    let u = c .before .w2 .given .0 .1 .0 in
+    let ew = sym (ap rawSaid (c .before .w2 .given .1)) ∙ c .before .before .before .pkg .ensures in
+    let pk = reaches.package-in (a .base + a .at) (a .at) (a .part .now) n u ew (c .before .before .before .before .before .pre .1 .0) in
+    omega (arith, pk, c .before .before .before .before .before .pre .1)
+
+predicate-and-body-term-arg-requires : (t : ℕ) → predicate-and-body-lts.Need-term-arg-requires (predicate-and-body-claims t) (predicate-and-body-at t) predicate-and-body.Post
+predicate-and-body-term-arg-requires t c κs =
+    let a = c .before .before .before .before .before .args in let n = c .before .w2 .given .0 .0 in
+    let u = c .before .w2 .given .0 .1 .0 in
+    let ew = sym (ap rawSaid (c .before .w2 .given .1)) ∙ c .before .before .before .pkg .ensures in
+    let pk = reaches.package-in (a .base + a .at) (a .at) (a .part .now) n u ew (c .before .before .before .before .before .pre .1 .0) in
+    omega (arith, pk, c .before .before .before .before .before .pre .1)
+
+predicate-and-body-enum-told : (t : ℕ) → predicate-and-body-lts.Need-enum-told (predicate-and-body-claims t) (predicate-and-body-at t) predicate-and-body.Post
+predicate-and-body-enum-told t c = search needs
+
+predicate-and-body-enum-known-t : (t : ℕ) → predicate-and-body-lts.Need-enum-known-t (predicate-and-body-claims t) (predicate-and-body-at t) predicate-and-body.Post
+predicate-and-body-enum-known-t t c = search needs
+
+predicate-and-body-add-end : (t : ℕ) → predicate-and-body-lts.Need-add-end (predicate-and-body-claims t) (predicate-and-body-at t) predicate-and-body.Post
+predicate-and-body-add-end t c =
+    let a = c .before .before .before .before .before .before .before .before .before .args in let n = c .before .before .before .before .before .w2 .given .0 .0 in
+    let u = c .before .before .before .before .before .w2 .given .0 .1 .0 in
+    let ew = sym (ap rawSaid (c .before .before .before .before .before .w2 .given .1)) ∙ c .before .before .before .before .before .before .before .pkg .ensures in
+    let pk = reaches.package-in (a .base + a .at) (a .at) (a .part .now) n u ew (c .before .before .before .before .before .before .before .before .before .pre .1 .0) in
+    omega (arith, pk, c .before .before .before .before .before .before .before .before .before .pre .1)
+
+predicate-and-body-add-t17 : (t : ℕ) → predicate-and-body-lts.Need-add-t17 (predicate-and-body-claims t) (predicate-and-body-at t) predicate-and-body.Post
+predicate-and-body-add-t17 t c = search needs
+
+predicate-and-body-returns : (t : ℕ) → predicate-and-body-lts.Need-returns (predicate-and-body-claims t) (predicate-and-body-at t) predicate-and-body.Post
+predicate-and-body-returns t c =
+    let a = c .before .before .before .before .before .before .before .before .before .before .args in let n = c .before .before .before .before .before .before .w2 .given .0 .0 in
+    let u = c .before .before .before .before .before .before .w2 .given .0 .1 .0 in
+    let ew = sym (ap rawSaid (c .before .before .before .before .before .before .w2 .given .1)) ∙ c .before .before .before .before .before .before .before .before .pkg .ensures in
+    let pk = reaches.package-in (a .base + a .at) (a .at) (a .part .now) n u ew (c .before .before .before .before .before .before .before .before .before .before .pre .1 .0) in
+    let m = c .before .before .t .given .0 .0 in
+    let et = sym (ap reached (c .before .before .t .given .1)) ∙ c .before .before .before .before .term-arg .ensures in
+    let tm = reaches.term-in depthLimit (a .base + (a .at + u)) (a .at + u) (a .part .now) m (omega (arith, pk)) et in
+    reaches.head-short (a .left) (a .base) (a .at) (a .part .now) n u ew m et (c .if1 .taken)
+
+predicate-and-body-part-term-list-start :
+    (t : ℕ) → predicate-and-body-lts.Need-part-term-list-start (predicate-and-body-claims t) (predicate-and-body-at t) predicate-and-body.Post
+predicate-and-body-part-term-list-start t c =
+    let a = c .before .before .before .before .before .before .before .before .before .before .args in let n = c .before .before .before .before .before .before .w2 .given .0 .0 in
+    let u = c .before .before .before .before .before .before .w2 .given .0 .1 .0 in
+    let ew = sym (ap rawSaid (c .before .before .before .before .before .before .w2 .given .1)) ∙ c .before .before .before .before .before .before .before .before .pkg .ensures in
+    let pk = reaches.package-in (a .base + a .at) (a .at) (a .part .now) n u ew (c .before .before .before .before .before .before .before .before .before .before .pre .1 .0) in
+    let m = c .before .before .t .given .0 .0 in
+    let et = sym (ap reached (c .before .before .t .given .1)) ∙ c .before .before .before .before .term-arg .ensures in
+    let tm = reaches.term-in depthLimit (a .base + (a .at + u)) (a .at + u) (a .part .now) m (omega (arith, pk)) et in
+    omega (arith, c .if1 .left)
+
+predicate-and-body-part-term-list-end : (t : ℕ) → predicate-and-body-lts.Need-part-term-list-end (predicate-and-body-claims t) (predicate-and-body-at t) predicate-and-body.Post
+predicate-and-body-part-term-list-end t c =
+    let a = c .before .before .before .before .before .before .before .before .before .before .args in let n = c .before .before .before .before .before .before .w2 .given .0 .0 in
+    let u = c .before .before .before .before .before .before .w2 .given .0 .1 .0 in
+    let ew = sym (ap rawSaid (c .before .before .before .before .before .before .w2 .given .1)) ∙ c .before .before .before .before .before .before .before .before .pkg .ensures in
+    let pk = reaches.package-in (a .base + a .at) (a .at) (a .part .now) n u ew (c .before .before .before .before .before .before .before .before .before .before .pre .1 .0) in
+    let m = c .before .before .t .given .0 .0 in
+    let et = sym (ap reached (c .before .before .t .given .1)) ∙ c .before .before .before .before .term-arg .ensures in
+    let tm = reaches.term-in depthLimit (a .base + (a .at + u)) (a .at + u) (a .part .now) m (omega (arith, pk)) et in
+    omega (arith, pk)
+
+predicate-and-body-add-term-list : (t : ℕ) → predicate-and-body-lts.Need-add-term-list (predicate-and-body-claims t) (predicate-and-body-at t) predicate-and-body.Post
+predicate-and-body-add-term-list t c =
+    let a = c .before .before .before .before .before .before .before .before .before .before .before .args in let n = c .before .before .before .before .before .before .before .w2 .given .0 .0 in
+    let u = c .before .before .before .before .before .before .before .w2 .given .0 .1 .0 in
+    let ew = sym (ap rawSaid (c .before .before .before .before .before .before .before .w2 .given .1)) ∙ c .before .before .before .before .before .before .before .before .before .pkg .ensures in
+    let pk = reaches.package-in (a .base + a .at) (a .at) (a .part .now) n u ew (c .before .before .before .before .before .before .before .before .before .before .before .pre .1 .0) in
+    let m = c .before .before .before .t .given .0 .0 in
+    let et = sym (ap reached (c .before .before .before .t .given .1)) ∙ c .before .before .before .before .before .term-arg .ensures in
+    let tm = reaches.term-in depthLimit (a .base + (a .at + u)) (a .at + u) (a .part .now) m (omega (arith, pk)) et in
+    omega (arith, tm, c .before .before .before .before .before .before .before .before .before .before .before .pre .1)
+
+predicate-and-body-term-list-requires : (t : ℕ) → predicate-and-body-lts.Need-term-list-requires (predicate-and-body-claims t) (predicate-and-body-at t) predicate-and-body.Post
+predicate-and-body-term-list-requires t c κs =
+    let a = c .before .before .before .before .before .before .before .before .before .before .before .args in let n = c .before .before .before .before .before .before .before .w2 .given .0 .0 in
+    let u = c .before .before .before .before .before .before .before .w2 .given .0 .1 .0 in
+    let ew = sym (ap rawSaid (c .before .before .before .before .before .before .before .w2 .given .1)) ∙ c .before .before .before .before .before .before .before .before .before .pkg .ensures in
+    let pk = reaches.package-in (a .base + a .at) (a .at) (a .part .now) n u ew (c .before .before .before .before .before .before .before .before .before .before .before .pre .1 .0) in
+    let m = c .before .before .before .t .given .0 .0 in
+    let et = sym (ap reached (c .before .before .before .t .given .1)) ∙ c .before .before .before .before .before .term-arg .ensures in
+    let tm = reaches.term-in depthLimit (a .base + (a .at + u)) (a .at + u) (a .part .now) m (omega (arith, pk)) et in
+    omega (arith, pk, tm, c .before .if1 .left, c .before .before .before .before .before .before .before .before .before .before .before .pre, length-take (a .at + n - m) (drop m (a .part .now)), length-drop m (a .part .now))
+
+predicate-and-body-enum-told-2 : (t : ℕ) → predicate-and-body-lts.Need-enum-told-2 (predicate-and-body-claims t) (predicate-and-body-at t) predicate-and-body.Post
+predicate-and-body-enum-told-2 t c = search needs
+
+predicate-and-body-enum-told-3 : (t : ℕ) → predicate-and-body-lts.Need-enum-told-3 (predicate-and-body-claims t) (predicate-and-body-at t) predicate-and-body.Post
+predicate-and-body-enum-told-3 t c = search needs
+
+predicate-and-body-returns-2 : (t : ℕ) → predicate-and-body-lts.Need-returns-2 (predicate-and-body-claims t) (predicate-and-body-at t) predicate-and-body.Post
+predicate-and-body-returns-2 t c =
+    let a = c .before .before .before .before .before .args in reaches.head-no-package (a .left) (a .base) (a .at) (a .part .now) _ _ (sym (ap rawSaid (c .before .w .given .1)) ∙ c .before .before .before .pkg .ensures)
+
+predicate-and-body-returns-3 : (t : ℕ) → predicate-and-body-lts.Need-returns-3 (predicate-and-body-claims t) (predicate-and-body-at t) predicate-and-body.Post
+predicate-and-body-returns-3 t c =
+    let a = c .before .before .before .before .before .before .before .before .args in let n = c .before .before .before .before .w2 .given .0 .0 in
+    let u = c .before .before .before .before .w2 .given .0 .1 .0 in
+    let ew = sym (ap rawSaid (c .before .before .before .before .w2 .given .1)) ∙ c .before .before .before .before .before .before .pkg .ensures in
+    let pk = reaches.package-in (a .base + a .at) (a .at) (a .part .now) n u ew (c .before .before .before .before .before .before .before .before .pre .1 .0) in
+    ap reached (c .enum-told .given .1) ∙ reaches.head-no-term (a .left) (a .base) (a .at) (a .part .now) n u ew _ _ (sym (ap reached (c .enum-told .given .1)) ∙ c .before .before .term-arg .ensures)
+
+predicate-and-body-returns-4 : (t : ℕ) → predicate-and-body-lts.Need-returns-4 (predicate-and-body-claims t) (predicate-and-body-at t) predicate-and-body.Post
+predicate-and-body-returns-4 t c =
+    let c-pre = c .before .before .before .before .before .before .before .before .before .before .before .before .before .before .pre in
+    let c-pkg = c .before .before .before .before .before .before .before .before .before .before .before .before .pkg in
+    let c-w2 = c .before .before .before .before .before .before .before .before .before .before .w2 in
+    let c-term-arg = c .before .before .before .before .before .before .before .before .term-arg in
+    let c-t = c .before .before .before .before .before .before .t in
+    let c-enum-told2 = c .enum-told2 in
+    let a = c .before .before .before .before .before .before .before .before .before .before .before .before .before .before .args in
+    let n = c-w2 .given .0 .0 in
+    let u = c-w2 .given .0 .1 .0 in
+    let ew = sym (ap rawSaid (c-w2 .given .1)) ∙ c-pkg .ensures in
+    let pk = reaches.package-in (a .base + a .at) (a .at) (a .part .now) n u ew (c-pre .1 .0) in
+    let m = c-t .given .0 .0 in
+    let et = sym (ap reached (c-t .given .1)) ∙ c-term-arg .ensures in
+    let tm = reaches.term-in depthLimit (a .base + (a .at + u)) (a .at + u) (a .part .now) m (omega (arith, pk)) et in
+    ap reached (c-enum-told2 .given .1) ∙ reaches.head-no-body (a .left) (a .base) (a .at) (a .part .now) n u ew m et
+    (c .before .before .before .before .if1 .left) _ _ (sym (ap reached (c-enum-told2 .given .1)) ∙ c .before .before .term-list .ensures)
+
+predicate-and-body-returns-5 : (t : ℕ) → predicate-and-body-lts.Need-returns-5 (predicate-and-body-claims t) (predicate-and-body-at t) predicate-and-body.Post
+predicate-and-body-returns-5 t c =
+    let c-pre = c .before .before .before .before .before .before .before .before .before .before .before .before .before .before .pre in
+    let c-pkg = c .before .before .before .before .before .before .before .before .before .before .before .before .pkg in
+    let c-w2 = c .before .before .before .before .before .before .before .before .before .before .w2 in
+    let c-term-arg = c .before .before .before .before .before .before .before .before .term-arg in
+    let c-t = c .before .before .before .before .before .before .t in
+    let a = c .before .before .before .before .before .before .before .before .before .before .before .before .before .before .args in
+    let n = c-w2 .given .0 .0 in
+    let u = c-w2 .given .0 .1 .0 in
+    let ew = sym (ap rawSaid (c-w2 .given .1)) ∙ c-pkg .ensures in
+    let pk = reaches.package-in (a .base + a .at) (a .at) (a .part .now) n u ew (c-pre .1 .0) in
+    let m = c-t .given .0 .0 in
+    let et = sym (ap reached (c-t .given .1)) ∙ c-term-arg .ensures in
+    let tm = reaches.term-in depthLimit (a .base + (a .at + u)) (a .at + u) (a .part .now) m (omega (arith, pk)) et in
+    reaches.head-body (a .left) (a .base) (a .at) (a .part .now) n u ew m et (c .before .before .before .before .if1 .left) _
+    (sym (ap reached (c .enum-told3 .given .1)) ∙ c .before .before .term-list .ensures)
+
+statement-opcode-add-t7 : (t : ℕ) → statement-opcode-lts.Need-add-t7 (statement-opcode-claims t) (statement-opcode-at t) statement-opcode.Post
+statement-opcode-add-t7 t c = search needs
+
+statement-opcode-returns : (t : ℕ) → statement-opcode-lts.Need-returns (statement-opcode-claims t) (statement-opcode-at t) statement-opcode.Post
+statement-opcode-returns t c =
+    let a = c .before .before .args in reaches.stmt-deep (a .left) (a .base) (a .at) (a .part .now) (c .if1 .taken)
+
+statement-opcode-shared-slice-read-stmt-op :
+    (t : ℕ) → statement-opcode-lts.Need-shared-slice-read-stmt-op (statement-opcode-claims t) (statement-opcode-at t) statement-opcode.Post
+statement-opcode-shared-slice-read-stmt-op t c = search needs
+
+statement-opcode-stmt-op-requires : (t : ℕ) → statement-opcode-lts.Need-stmt-op-requires (statement-opcode-claims t) (statement-opcode-at t) statement-opcode.Post
+statement-opcode-stmt-op-requires t c κs = search needs
+
+statement-opcode-enum-told : (t : ℕ) → statement-opcode-lts.Need-enum-told (statement-opcode-claims t) (statement-opcode-at t) statement-opcode.Post
+statement-opcode-enum-told t c = search needs
+
+statement-opcode-add-t12 : (t : ℕ) → statement-opcode-lts.Need-add-t12 (statement-opcode-claims t) (statement-opcode-at t) statement-opcode.Post
+statement-opcode-add-t12 t c = search needs
+
+statement-opcode-enum-told-2 : (t : ℕ) → statement-opcode-lts.Need-enum-told-2 (statement-opcode-claims t) (statement-opcode-at t) statement-opcode.Post
+statement-opcode-enum-told-2 t c = search needs
+
+statement-opcode-add-term-arg : (t : ℕ) → statement-opcode-lts.Need-add-term-arg (statement-opcode-claims t) (statement-opcode-at t) statement-opcode.Post
+statement-opcode-add-term-arg t c = search needs
+
+statement-opcode-term-arg-requires : (t : ℕ) → statement-opcode-lts.Need-term-arg-requires (statement-opcode-claims t) (statement-opcode-at t) statement-opcode.Post
+statement-opcode-term-arg-requires t c κs = search needs
+
+statement-opcode-enum-told-3 : (t : ℕ) → statement-opcode-lts.Need-enum-told-3 (statement-opcode-claims t) (statement-opcode-at t) statement-opcode.Post
+statement-opcode-enum-told-3 t c = search needs
+
+statement-opcode-add-def-if-else : (t : ℕ) → statement-opcode-lts.Need-add-def-if-else (statement-opcode-claims t) (statement-opcode-at t) statement-opcode.Post
+statement-opcode-add-def-if-else t c = search needs
+
+statement-opcode-sub-def-if-else : (t : ℕ) → statement-opcode-lts.Need-sub-def-if-else (statement-opcode-claims t) (statement-opcode-at t) statement-opcode.Post
+statement-opcode-sub-def-if-else t c = search needs
+
+statement-opcode-def-if-else-requires : (t : ℕ) → statement-opcode-lts.Need-def-if-else-requires (statement-opcode-claims t) (statement-opcode-at t) statement-opcode.Post
+statement-opcode-def-if-else-requires t c κs = search needs
+
+statement-opcode-enum-told-4 : (t : ℕ) → statement-opcode-lts.Need-enum-told-4 (statement-opcode-claims t) (statement-opcode-at t) statement-opcode.Post
+statement-opcode-enum-told-4 t c = search needs
+
+statement-opcode-add-predicate-and-body :
+    (t : ℕ) → statement-opcode-lts.Need-add-predicate-and-body (statement-opcode-claims t) (statement-opcode-at t) statement-opcode.Post
+statement-opcode-add-predicate-and-body t c = search needs
+
+statement-opcode-sub-predicate-and-body :
+    (t : ℕ) → statement-opcode-lts.Need-sub-predicate-and-body (statement-opcode-claims t) (statement-opcode-at t) statement-opcode.Post
+statement-opcode-sub-predicate-and-body t c = search needs
+
+statement-opcode-predicate-and-body-requires :
+    (t : ℕ) → statement-opcode-lts.Need-predicate-and-body-requires (statement-opcode-claims t) (statement-opcode-at t) statement-opcode.Post
+statement-opcode-predicate-and-body-requires t c κs = search needs
+
+statement-opcode-enum-told-5 : (t : ℕ) → statement-opcode-lts.Need-enum-told-5 (statement-opcode-claims t) (statement-opcode-at t) statement-opcode.Post
+statement-opcode-enum-told-5 t c = search needs
+
+statement-opcode-expression-opcode-requires :
+    (t : ℕ) → statement-opcode-lts.Need-expression-opcode-requires (statement-opcode-claims t) (statement-opcode-at t) statement-opcode.Post
+statement-opcode-expression-opcode-requires t c κs = search needs
+
+statement-opcode-returns-2 : (t : ℕ) → statement-opcode-lts.Need-returns-2 (statement-opcode-claims t) (statement-opcode-at t) statement-opcode.Post
+statement-opcode-returns-2 t c =
+    let c-pre = c .before .before .before .before .before .before .pre in
+    let c-stmt-op = c .before .before .stmt-op in
+    let a = c .before .before .before .before .before .before .args in
+    reaches.stmt-arm (a .left) (a .base) (a .at) (a .part .now) (omega (arith, c .before .before .before .before .if1 .left)) (c-pre .1 .0)
+    (c-stmt-op .result) (c-stmt-op .ensures) _ _ (c .enum-told .given .1) refl
+
+statement-opcode-returns-3 : (t : ℕ) → statement-opcode-lts.Need-returns-3 (statement-opcode-claims t) (statement-opcode-at t) statement-opcode.Post
+statement-opcode-returns-3 t c =
+    let c-pre = c .before .before .before .before .before .before .before .pre in
+    let c-if1 = c .before .before .before .before .before .if1 in
+    let c-stmt-op = c .before .before .before .stmt-op in
+    let a = c .before .before .before .before .before .before .before .args in
+    reaches.stmt-arm (a .left) (a .base) (a .at) (a .part .now) (omega (arith, c-if1 .left)) (c-pre .1 .0) (c-stmt-op .result) (c-stmt-op .ensures) _ _
+    (c .before .enum-told2 .given .1) (reaches.next-one (readTerm depthLimit) return (a .base) (a .at) (drop (a .at + 1) (a .part .now)) _ (c .term-arg .ensures))
+
+statement-opcode-returns-4 : (t : ℕ) → statement-opcode-lts.Need-returns-4 (statement-opcode-claims t) (statement-opcode-at t) statement-opcode.Post
+statement-opcode-returns-4 t c =
+    let c-pre = c .before .before .before .before .before .before .before .pre in
+    let c-if1 = c .before .before .before .before .before .if1 in
+    let c-stmt-op = c .before .before .before .stmt-op in
+    let a = c .before .before .before .before .before .before .before .args in
+    reaches.stmt-arm (a .left) (a .base) (a .at) (a .part .now) (omega (arith, c-if1 .left)) (c-pre .1 .0) (c-stmt-op .result) (c-stmt-op .ensures) _ _
+    (c .before .enum-told3 .given .1) (reaches.next-one (readIf (readList (a .left - 1))) (λ (x : Stmt). x) (a .base) (a .at) (drop (a .at + 1) (a .part .now)) _ (c .def-if-else .ensures))
+
+statement-opcode-returns-5 : (t : ℕ) → statement-opcode-lts.Need-returns-5 (statement-opcode-claims t) (statement-opcode-at t) statement-opcode.Post
+statement-opcode-returns-5 t c =
+    let c-pre = c .before .before .before .before .before .before .before .pre in
+    let c-if1 = c .before .before .before .before .before .if1 in
+    let c-stmt-op = c .before .before .before .stmt-op in
+    let a = c .before .before .before .before .before .before .before .args in
+    reaches.stmt-arm (a .left) (a .base) (a .at) (a .part .now) (omega (arith, c-if1 .left)) (c-pre .1 .0) (c-stmt-op .result) (c-stmt-op .ensures) _ _
+    (c .before .enum-told4 .given .1) (reaches.next-one (readHead (readList (a .left - 1))) whileOf (a .base) (a .at) (drop (a .at + 1) (a .part .now)) _ (c .predicate-and-body .ensures))
+
+statement-opcode-returns-6 : (t : ℕ) → statement-opcode-lts.Need-returns-6 (statement-opcode-claims t) (statement-opcode-at t) statement-opcode.Post
+statement-opcode-returns-6 t c =
+    let c-pre = c .before .before .before .before .before .before .before .pre in
+    let c-if1 = c .before .before .before .before .before .if1 in
+    let c-stmt-op = c .before .before .before .stmt-op in
+    let a = c .before .before .before .before .before .before .before .args in
+    reaches.stmt-arm (a .left) (a .base) (a .at) (a .part .now) (omega (arith, c-if1 .left)) (c-pre .1 .0) (c-stmt-op .result) (c-stmt-op .ensures) _ _
+    (c .before .enum-told5 .given .1) (reaches.expr-here (a .base + a .at) (a .at) (a .part .now) (c-pre .1 .0) (readList (a .left - 1)) _ (c .expression-opcode .ensures))
+
+abbrev term-list-Inv-loop : term-list-lts.InvT-loop
+term-list-Inv-loop part base left at₀ at =
+    (at ≤ length part) × (upTo 0 (readList left base part) ≡ upTo at (readList left (base + at) (drop at part)))
+
+abbrev term-list-μ-loop : term-list-lts.MeasureT-loop
+term-list-μ-loop part base left at₀ at = length part - at
+
+term-list-loop-holds : (t : ℕ) → term-list-lts.Need-loop-holds (term-list-claims t) (term-list-at t) term-list.Post term-list-Inv-loop term-list-μ-loop
+term-list-loop-holds t c =
+    let a = c .before .args in (omega arith, let q : a .base ≡ a .base + 0 = omega arith in ap (λ (k : ℕ). upTo 0 (readList (a .left) k (a .part .now))) q)
+
+term-list-statement-opcode-requires : (t : ℕ) → term-list-lts.Need-statement-opcode-requires (term-list-claims t) (term-list-at t) term-list.Post term-list-Inv-loop term-list-μ-loop
+term-list-statement-opcode-requires t c κs = search needs
+
+term-list-enum-known-r : (t : ℕ) → term-list-lts.Need-enum-known-r (term-list-claims t) (term-list-at t) term-list.Post term-list-Inv-loop term-list-μ-loop
+term-list-enum-known-r t c = search needs
+
+term-list-loop-less : (t : ℕ) → term-list-lts.Need-loop-less (term-list-claims t) (term-list-at t) term-list.Post term-list-Inv-loop term-list-μ-loop
+term-list-loop-less t c =
+    let c-loop = c .before .before .before .before .before .loop in
+    let c-loop-test = c .before .before .before .before .loop-test in
+    let c-statement-opcode = c .before .before .before .statement-opcode in
+    let c-r = c .before .r in
+    let a = c .before .before .before .before .before .before .before .args in
+    omega (arith, reaches.list-more (a .left) (a .base) (c-loop .at) (a .part .now) (c-loop-test .taken) (c-r .given .0 .0) (sym (ap reached (c-r .given .1)) ∙ c-statement-opcode .ensures))
+
+term-list-loop-again : (t : ℕ) → term-list-lts.Need-loop-again (term-list-claims t) (term-list-at t) term-list.Post term-list-Inv-loop term-list-μ-loop
+term-list-loop-again t c =
+    let c-loop = c .before .before .before .before .before .loop in
+    let c-loop-test = c .before .before .before .before .loop-test in
+    let c-statement-opcode = c .before .before .before .statement-opcode in
+    let c-r = c .before .r in
+    let a = c .before .before .before .before .before .before .before .args in
+    let m = reaches.list-more (a .left) (a .base) (c-loop .at) (a .part .now) (c-loop-test .taken) (c-r .given .0 .0) (sym (ap reached (c-r .given .1)) ∙ c-statement-opcode .ensures) in
+    (m .1, c-loop .inv .1 ∙ m .2)
+
+term-list-enum-told : (t : ℕ) → term-list-lts.Need-enum-told (term-list-claims t) (term-list-at t) term-list.Post term-list-Inv-loop term-list-μ-loop
+term-list-enum-told t c = search needs
+
+term-list-returns : (t : ℕ) → term-list-lts.Need-returns (term-list-claims t) (term-list-at t) term-list.Post term-list-Inv-loop term-list-μ-loop
+term-list-returns t c =
+    let c-loop = c .before .before .before .before .loop in
+    let c-enum-told = c .enum-told in
+    let a = c .before .before .before .before .before .before .args in
+    ap reached (c-enum-told .given .1) ∙ reaches.list-stop (a .left) (a .base) (c-loop .at) (a .part .now) (c .before .before .before .loop-test .taken) _
+    _ (sym (ap reached (c-enum-told .given .1)) ∙ c .before .before .statement-opcode .ensures) ∙ sym (c-loop .inv .1)
+
+term-list-returns-2 : (t : ℕ) → term-list-lts.Need-returns-2 (term-list-claims t) (term-list-at t) term-list.Post term-list-Inv-loop term-list-μ-loop
+term-list-returns-2 t c =
+    let a = c .before .before .before .args in reaches.list-end (a .left) (a .base + c .before .loop .at) (c .before .loop .at) (a .part .now) (omega arith) ∙ sym (c .before .loop .inv .1)
+
+pub +def-else+def-if-else+predicate-and-body+statement-opcode+term-list-spec :
+    {M : Type 1} → statement M
++def-else+def-if-else+predicate-and-body+statement-opcode+term-list-spec =
+    close
+    μ-def-else
+    μ-def-if-else
+    μ-predicate-and-body
+    μ-statement-opcode
+    μ-term-list
+    (λ t. def-else-lts.spec
+    (pkg-reads.Asked, pkg-reads.Learnt, term-list-below t, term-list.Post)
+    (def-else-at t)
+    def-else.Post
+    (def-else-returns t)
+    (def-else-shared-slice-read-if2 t)
+    (def-else-returns-2 t)
+    (def-else-add-pkg t)
+    (def-else-pkg-requires t)
+    (def-else-enum-known-w t)
+    (def-else-enum-known-w-2 t)
+    (def-else-add-body t)
+    (def-else-add-body-2 t)
+    (def-else-add-end t)
+    (def-else-add-end-2 t)
+    (def-else-sub-term-list t)
+    (def-else-part-term-list-start t)
+    (def-else-part-term-list-end t)
+    (def-else-add-term-list t)
+    (def-else-term-list-requires t)
+    (def-else-enum-told t)
+    (def-else-enum-told-2 t)
+    (def-else-returns-3 t)
+    (def-else-returns-4 t)
+    (def-else-returns-5 t))
+    (λ t. def-if-else-lts.spec (def-if-else-claims t) (def-if-else-at t) def-if-else.Post
+    (def-if-else-predicate-and-body-requires t)
+    (def-if-else-enum-told t)
+    (def-if-else-enum-known-h t)
+    (def-if-else-def-else-requires t)
+    (def-if-else-returns t)
+    (def-if-else-returns-2 t))
+    (λ t. predicate-and-body-lts.spec (predicate-and-body-claims t) (predicate-and-body-at t) predicate-and-body.Post
+    (predicate-and-body-pkg-requires t)
+    (predicate-and-body-enum-known-w t)
+    (predicate-and-body-enum-known-w-2 t)
+    (predicate-and-body-add-term-arg t)
+    (predicate-and-body-term-arg-requires t)
+    (predicate-and-body-enum-told t)
+    (predicate-and-body-enum-known-t t)
+    (predicate-and-body-add-end t)
+    (predicate-and-body-add-t17 t)
+    (predicate-and-body-returns t)
+    (predicate-and-body-part-term-list-start t)
+    (predicate-and-body-part-term-list-end t)
+    (predicate-and-body-add-term-list t)
+    (predicate-and-body-term-list-requires t)
+    (predicate-and-body-enum-told-2 t)
+    (predicate-and-body-enum-told-3 t)
+    (predicate-and-body-returns-2 t)
+    (predicate-and-body-returns-3 t)
+    (predicate-and-body-returns-4 t)
+    (predicate-and-body-returns-5 t))
+    (λ t. statement-opcode-lts.spec (statement-opcode-claims t) (statement-opcode-at t) statement-opcode.Post
+    (statement-opcode-add-t7 t)
+    (statement-opcode-returns t)
+    (statement-opcode-shared-slice-read-stmt-op t)
+    (statement-opcode-stmt-op-requires t)
+    (statement-opcode-enum-told t)
+    (statement-opcode-add-t12 t)
+    (statement-opcode-enum-told-2 t)
+    (statement-opcode-add-term-arg t)
+    (statement-opcode-term-arg-requires t)
+    (statement-opcode-enum-told-3 t)
+    (statement-opcode-add-def-if-else t)
+    (statement-opcode-sub-def-if-else t)
+    (statement-opcode-def-if-else-requires t)
+    (statement-opcode-enum-told-4 t)
+    (statement-opcode-add-predicate-and-body t)
+    (statement-opcode-sub-predicate-and-body t)
+    (statement-opcode-predicate-and-body-requires t)
+    (statement-opcode-enum-told-5 t)
+    (statement-opcode-expression-opcode-requires t)
+    (statement-opcode-returns-2 t)
+    (statement-opcode-returns-3 t)
+    (statement-opcode-returns-4 t)
+    (statement-opcode-returns-5 t)
+    (statement-opcode-returns-6 t))
+    λ t. term-list-lts.spec
+    (statement-opcode-below t, statement-opcode.Post)
+    (term-list-at t)
+    term-list.Post
+    term-list-Inv-loop
+    term-list-μ-loop
+    (term-list-loop-holds t)
+    (term-list-statement-opcode-requires t)
+    (term-list-enum-known-r t)
+    (term-list-loop-less t)
+    (term-list-loop-again t)
+    (term-list-enum-told t)
+    (term-list-returns t)
+    (term-list-returns-2 t)

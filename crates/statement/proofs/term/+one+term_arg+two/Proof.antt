@@ -1,0 +1,340 @@
+-- Each return is one law of Reaches. Calls fall by the depths left alone.
+use mathlib.Core.Path.{refl, sym, _∙_, ap}
+use Prim.Native.Nat.{ℕ, _<_, _+_, _-_, _*_}
+use lib.ListN.{drop}
+use Rattle.statement.specs.Reading.{step}
+use Rattle.statement.specs.Refusal.{readBytes, readCell, readOne, readTwo, readTerm, oneOf, twoOf}
+use Rattle.statement.specs.Said.{reached}
+use Rattle.statement.proofs.Reaches as reaches
+use borrow.Author.Needs.{needs}
+use native.Mathlib.Omega.{arith}
+use borrow.Fn.Kinds.{In}
+use borrow.Fn.PlainCycle.{Measures, is, falls, and}
+use Rattle.statement.proofs.term.one.Reads as one
+use Rattle.statement.proofs.term.one.Kinds as one-kinds
+use Rattle.statement.proofs.term.+one+term_arg+two.Lts-one as one-lts
+use Rattle.statement.proofs.term.term_arg.Reads as term-arg
+use Rattle.statement.proofs.term.term_arg.Kinds as term-arg-kinds
+use Rattle.statement.proofs.term.+one+term_arg+two.Lts-term_arg as term-arg-lts
+use Rattle.statement.proofs.term.two.Reads as two
+use Rattle.statement.proofs.term.two.Kinds as two-kinds
+use Rattle.statement.proofs.term.+one+term_arg+two.Lts-two as two-lts
+use Rattle.statement.proofs.opcode.term_op.Reads as term-op-reads
+use Rattle.statement.proofs.term.bytes.Reads as bytes-reads
+use Rattle.statement.proofs.term.cell.Reads as cell-reads
+use Rattle.statement.proofs.term.dest.Reads as dest-reads
+use Rattle.statement.proofs.term.+one+term_arg+two.{statement}
+use Rattle.statement.proofs.term.+one+term_arg+two.Tie.{close}
+
+abbrev μ-one : Measures 1 one-kinds.ps ℕ
+μ-one κs a = 3 * a .1 .1 .1 .0 + 1
+
+abbrev μ-term-arg : Measures 1 term-arg-kinds.ps ℕ
+μ-term-arg κs a = 3 * a .1 .1 .1 .0
+
+abbrev μ-two : Measures 1 two-kinds.ps ℕ
+μ-two κs a = 3 * a .1 .1 .1 .0 + 2
+
+abbrev one-at : ℕ → In 1 one-kinds.ps
+one-at t = and 1 one-kinds.ps (is 1 one-kinds.ps μ-one t) one.Pre
+
+abbrev one-below : ℕ → In 1 one-kinds.ps
+one-below t = and 1 one-kinds.ps (falls 1 one-kinds.ps _<_ μ-one t) one.Pre
+
+abbrev term-arg-at : ℕ → In 1 term-arg-kinds.ps
+term-arg-at t = and 1 term-arg-kinds.ps (is 1 term-arg-kinds.ps μ-term-arg t) term-arg.Pre
+
+abbrev term-arg-below : ℕ → In 1 term-arg-kinds.ps
+term-arg-below t =
+    and 1 term-arg-kinds.ps (falls 1 term-arg-kinds.ps _<_ μ-term-arg t) term-arg.Pre
+
+abbrev two-at : ℕ → In 1 two-kinds.ps
+two-at t = and 1 two-kinds.ps (is 1 two-kinds.ps μ-two t) two.Pre
+
+abbrev two-below : ℕ → In 1 two-kinds.ps
+two-below t = and 1 two-kinds.ps (falls 1 two-kinds.ps _<_ μ-two t) two.Pre
+
+abbrev one-claims : ℕ → one-lts.Claims
+one-claims t = (term-arg-below t, term-arg.Post, dest-reads.Asked, dest-reads.Learnt)
+
+abbrev term-arg-claims : ℕ → term-arg-lts.Claims
+term-arg-claims t = (term-op-reads.Asked, term-op-reads.Learnt, bytes-reads.Asked, bytes-reads.Learnt, cell-reads.Asked, cell-reads.Learnt, one-below t, one.Post, two-below t, two.Post)
+
+abbrev two-claims : ℕ → two-lts.Claims
+two-claims t = (term-arg-below t, term-arg.Post, one-below t, one.Post)
+
+one-term-arg-requires : (t : ℕ) → one-lts.Need-term-arg-requires (one-claims t) (one-at t) one.Post
+one-term-arg-requires t c κs = search needs
+
+one-enum-told : (t : ℕ) → one-lts.Need-enum-told (one-claims t) (one-at t) one.Post
+one-enum-told t c = search needs
+
+one-enum-known-r : (t : ℕ) → one-lts.Need-enum-known-r (one-claims t) (one-at t) one.Post
+one-enum-known-r t c = search needs
+
+one-dest-requires : (t : ℕ) → one-lts.Need-dest-requires (one-claims t) (one-at t) one.Post
+one-dest-requires t c κs =
+    let c-pre = c .before .before .before .before .before .pre in
+    let c-r = c .before .r in
+    let a = c .before .before .before .before .before .args in
+    omega (arith, reaches.term-in (a .left) (a .base + a .at) (a .at) (a .part .now) (c-r .given .0 .0) (c-pre .1 .0) (sym (ap reached (c-r .given .1)) ∙ c .before .before .before .term-arg .ensures), c-pre)
+
+one-returns : (t : ℕ) → one-lts.Need-returns (one-claims t) (one-at t) one.Post
+one-returns t c =
+    let c-enum-told = c .enum-told in
+    let a = c .before .before .before .before .args in
+    ap reached (c-enum-told .given .1) ∙ reaches.one-no-term (a .left) (a .base) (a .at) (a .part .now) (a .d) _ _
+    (sym (ap reached (c-enum-told .given .1)) ∙ c .before .before .term-arg .ensures)
+
+one-returns-2 : (t : ℕ) → one-lts.Need-returns-2 (one-claims t) (one-at t) one.Post
+one-returns-2 t c =
+    let c-term-arg = c .before .before .before .before .term-arg in
+    let c-r = c .before .before .r in
+    let a = c .before .before .before .before .before .before .args in
+    reaches.one-dest (a .left) (a .base) (a .at) (a .part .now) (a .d) (c-r .given .0 .0) (sym (ap reached (c-r .given .1)) ∙ c-term-arg .ensures) _
+    (c .dest .ensures)
+
+term-arg-add-t10 : (t : ℕ) → term-arg-lts.Need-add-t10 (term-arg-claims t) (term-arg-at t) term-arg.Post
+term-arg-add-t10 t c = search needs
+
+term-arg-returns : (t : ℕ) → term-arg-lts.Need-returns (term-arg-claims t) (term-arg-at t) term-arg.Post
+term-arg-returns t c =
+    let a = c .before .before .args in reaches.term-deep (a .left) (a .base) (a .at) (a .part .now) (c .if1 .taken)
+
+term-arg-add-t13 : (t : ℕ) → term-arg-lts.Need-add-t13 (term-arg-claims t) (term-arg-at t) term-arg.Post
+term-arg-add-t13 t c = search needs
+
+term-arg-returns-2 : (t : ℕ) → term-arg-lts.Need-returns-2 (term-arg-claims t) (term-arg-at t) term-arg.Post
+term-arg-returns-2 t c =
+    let a = c .before .before .before .args in reaches.term-end (a .left) (a .base) (a .at) (a .part .now) (omega arith) (c .if2 .taken)
+
+term-arg-shared-slice-read-term-op : (t : ℕ) → term-arg-lts.Need-shared-slice-read-term-op (term-arg-claims t) (term-arg-at t) term-arg.Post
+term-arg-shared-slice-read-term-op t c = search needs
+
+term-arg-term-op-requires : (t : ℕ) → term-arg-lts.Need-term-op-requires (term-arg-claims t) (term-arg-at t) term-arg.Post
+term-arg-term-op-requires t c κs = search needs
+
+term-arg-enum-told : (t : ℕ) → term-arg-lts.Need-enum-told (term-arg-claims t) (term-arg-at t) term-arg.Post
+term-arg-enum-told t c = search needs
+
+term-arg-add-t18 : (t : ℕ) → term-arg-lts.Need-add-t18 (term-arg-claims t) (term-arg-at t) term-arg.Post
+term-arg-add-t18 t c = search needs
+
+term-arg-enum-told-2 : (t : ℕ) → term-arg-lts.Need-enum-told-2 (term-arg-claims t) (term-arg-at t) term-arg.Post
+term-arg-enum-told-2 t c = search needs
+
+term-arg-add-t19 : (t : ℕ) → term-arg-lts.Need-add-t19 (term-arg-claims t) (term-arg-at t) term-arg.Post
+term-arg-add-t19 t c = search needs
+
+term-arg-enum-known-op : (t : ℕ) → term-arg-lts.Need-enum-known-op (term-arg-claims t) (term-arg-at t) term-arg.Post
+term-arg-enum-known-op t c = search needs
+
+term-arg-add-bytes : (t : ℕ) → term-arg-lts.Need-add-bytes (term-arg-claims t) (term-arg-at t) term-arg.Post
+term-arg-add-bytes t c = search needs
+
+term-arg-bytes-requires : (t : ℕ) → term-arg-lts.Need-bytes-requires (term-arg-claims t) (term-arg-at t) term-arg.Post
+term-arg-bytes-requires t c κs = search needs
+
+term-arg-enum-told-3 : (t : ℕ) → term-arg-lts.Need-enum-told-3 (term-arg-claims t) (term-arg-at t) term-arg.Post
+term-arg-enum-told-3 t c = search needs
+
+term-arg-add-t21 : (t : ℕ) → term-arg-lts.Need-add-t21 (term-arg-claims t) (term-arg-at t) term-arg.Post
+term-arg-add-t21 t c = search needs
+
+term-arg-enum-told-4 : (t : ℕ) → term-arg-lts.Need-enum-told-4 (term-arg-claims t) (term-arg-at t) term-arg.Post
+term-arg-enum-told-4 t c = search needs
+
+term-arg-add-cell : (t : ℕ) → term-arg-lts.Need-add-cell (term-arg-claims t) (term-arg-at t) term-arg.Post
+term-arg-add-cell t c = search needs
+
+term-arg-cell-requires : (t : ℕ) → term-arg-lts.Need-cell-requires (term-arg-claims t) (term-arg-at t) term-arg.Post
+term-arg-cell-requires t c κs = search needs
+
+term-arg-enum-known-op-2 : (t : ℕ) → term-arg-lts.Need-enum-known-op-2 (term-arg-claims t) (term-arg-at t) term-arg.Post
+term-arg-enum-known-op-2 t c = search needs
+
+term-arg-add-one : (t : ℕ) → term-arg-lts.Need-add-one (term-arg-claims t) (term-arg-at t) term-arg.Post
+term-arg-add-one t c = search needs
+
+term-arg-sub-one : (t : ℕ) → term-arg-lts.Need-sub-one (term-arg-claims t) (term-arg-at t) term-arg.Post
+term-arg-sub-one t c = search needs
+
+term-arg-one-requires : (t : ℕ) → term-arg-lts.Need-one-requires (term-arg-claims t) (term-arg-at t) term-arg.Post
+term-arg-one-requires t c κs = search needs
+
+term-arg-enum-known-op-3 : (t : ℕ) → term-arg-lts.Need-enum-known-op-3 (term-arg-claims t) (term-arg-at t) term-arg.Post
+term-arg-enum-known-op-3 t c = search needs
+
+term-arg-add-two : (t : ℕ) → term-arg-lts.Need-add-two (term-arg-claims t) (term-arg-at t) term-arg.Post
+term-arg-add-two t c = search needs
+
+term-arg-sub-two : (t : ℕ) → term-arg-lts.Need-sub-two (term-arg-claims t) (term-arg-at t) term-arg.Post
+term-arg-sub-two t c = search needs
+
+term-arg-two-requires : (t : ℕ) → term-arg-lts.Need-two-requires (term-arg-claims t) (term-arg-at t) term-arg.Post
+term-arg-two-requires t c κs = search needs
+
+term-arg-enum-told-5 : (t : ℕ) → term-arg-lts.Need-enum-told-5 (term-arg-claims t) (term-arg-at t) term-arg.Post
+term-arg-enum-told-5 t c = search needs
+
+term-arg-add-t27 : (t : ℕ) → term-arg-lts.Need-add-t27 (term-arg-claims t) (term-arg-at t) term-arg.Post
+term-arg-add-t27 t c = search needs
+
+term-arg-returns-3 : (t : ℕ) → term-arg-lts.Need-returns-3 (term-arg-claims t) (term-arg-at t) term-arg.Post
+term-arg-returns-3 t c =
+    let c-if1 = c .before .before .before .before .before .if1 in
+    let c-term-op = c .before .before .term-op in
+    let a = c .before .before .before .before .before .before .before .args in
+    reaches.term-arm (a .left) (a .base) (a .at) (a .part .now) (omega (arith, c-if1 .left)) (c .before .before .before .before .if2 .left)
+    (c-term-op .result) (c-term-op .ensures) _ _ (c .enum-told .given .1) refl
+
+term-arg-returns-4 : (t : ℕ) → term-arg-lts.Need-returns-4 (term-arg-claims t) (term-arg-at t) term-arg.Post
+term-arg-returns-4 t c =
+    let c-if1 = c .before .before .before .before .before .if1 in
+    let c-term-op = c .before .before .term-op in
+    let a = c .before .before .before .before .before .before .before .args in
+    reaches.term-arm (a .left) (a .base) (a .at) (a .part .now) (omega (arith, c-if1 .left)) (c .before .before .before .before .if2 .left)
+    (c-term-op .result) (c-term-op .ensures) _ _ (c .enum-told2 .given .1) refl
+
+term-arg-returns-5 : (t : ℕ) → term-arg-lts.Need-returns-5 (term-arg-claims t) (term-arg-at t) term-arg.Post
+term-arg-returns-5 t c =
+    let c-if1 = c .before .before .before .before .before .before .before .if1 in
+    let c-if2 = c .before .before .before .before .before .before .if2 in
+    let c-term-op = c .before .before .before .before .term-op in
+    let c-op = c .before .before .op in
+    let a = c .before .before .before .before .before .before .before .before .before .args in
+    reaches.term-arm (a .left) (a .base) (a .at) (a .part .now) (omega (arith, c-if1 .left)) (c-if2 .left) (c-term-op .result) (c-term-op .ensures) _ _
+    (c-op .given .1) (reaches.next-one (readBytes (c-op .given .0 .0)) (λ x. x) (a .base) (a .at) (drop (a .at + 1) (a .part .now)) _ (c .bytes .ensures))
+
+term-arg-returns-6 : (t : ℕ) → term-arg-lts.Need-returns-6 (term-arg-claims t) (term-arg-at t) term-arg.Post
+term-arg-returns-6 t c =
+    let c-if1 = c .before .before .before .before .before .if1 in
+    let c-term-op = c .before .before .term-op in
+    let a = c .before .before .before .before .before .before .before .args in
+    reaches.term-arm (a .left) (a .base) (a .at) (a .part .now) (omega (arith, c-if1 .left)) (c .before .before .before .before .if2 .left)
+    (c-term-op .result) (c-term-op .ensures) _ _ (c .enum-told3 .given .1) refl
+
+term-arg-returns-7 : (t : ℕ) → term-arg-lts.Need-returns-7 (term-arg-claims t) (term-arg-at t) term-arg.Post
+term-arg-returns-7 t c =
+    let c-if1 = c .before .before .before .before .before .before .if1 in
+    let c-if2 = c .before .before .before .before .before .if2 in
+    let c-term-op = c .before .before .before .term-op in
+    let c-enum-told4 = c .before .enum-told4 in
+    let a = c .before .before .before .before .before .before .before .before .args in
+    reaches.term-arm (a .left) (a .base) (a .at) (a .part .now) (omega (arith, c-if1 .left)) (c-if2 .left) (c-term-op .result) (c-term-op .ensures) _ _
+    (c-enum-told4 .given .1) (reaches.next-one readCell (step (c-enum-told4 .given .0 .0)) (a .base) (a .at) (drop (a .at + 1) (a .part .now)) _ (c .cell .ensures))
+
+term-arg-returns-8 : (t : ℕ) → term-arg-lts.Need-returns-8 (term-arg-claims t) (term-arg-at t) term-arg.Post
+term-arg-returns-8 t c =
+    let c-if1 = c .before .before .before .before .before .before .before .if1 in
+    let c-if2 = c .before .before .before .before .before .before .if2 in
+    let c-term-op = c .before .before .before .before .term-op in
+    let c-op2 = c .before .before .op2 in
+    let a = c .before .before .before .before .before .before .before .before .before .args in
+    reaches.term-arm (a .left) (a .base) (a .at) (a .part .now) (omega (arith, c-if1 .left)) (c-if2 .left) (c-term-op .result) (c-term-op .ensures) _ _
+    (c-op2 .given .1) (reaches.next-one (readOne (readTerm (a .left - 1)) (c-op2 .given .0 .1 .0)) (oneOf (c-op2 .given .0 .0)) (a .base) (a .at) (drop (a .at + 1) (a .part .now)) _ (c .one .ensures))
+
+term-arg-returns-9 : (t : ℕ) → term-arg-lts.Need-returns-9 (term-arg-claims t) (term-arg-at t) term-arg.Post
+term-arg-returns-9 t c =
+    let c-if1 = c .before .before .before .before .before .before .before .if1 in
+    let c-if2 = c .before .before .before .before .before .before .if2 in
+    let c-term-op = c .before .before .before .before .term-op in
+    let c-op3 = c .before .before .op3 in
+    let a = c .before .before .before .before .before .before .before .before .before .args in
+    reaches.term-arm (a .left) (a .base) (a .at) (a .part .now) (omega (arith, c-if1 .left)) (c-if2 .left) (c-term-op .result) (c-term-op .ensures) _ _
+    (c-op3 .given .1) (reaches.next-one (readTwo (readTerm (a .left - 1)) (c-op3 .given .0 .1 .0)) (twoOf (c-op3 .given .0 .0)) (a .base) (a .at) (drop (a .at + 1) (a .part .now)) _ (c .two .ensures))
+
+term-arg-returns-10 : (t : ℕ) → term-arg-lts.Need-returns-10 (term-arg-claims t) (term-arg-at t) term-arg.Post
+term-arg-returns-10 t c =
+    let c-if1 = c .before .before .before .before .before .if1 in
+    let c-term-op = c .before .before .term-op in
+    let a = c .before .before .before .before .before .before .before .args in
+    reaches.term-arm (a .left) (a .base) (a .at) (a .part .now) (omega (arith, c-if1 .left)) (c .before .before .before .before .if2 .left)
+    (c-term-op .result) (c-term-op .ensures) _ _ (c .enum-told5 .given .1) refl
+
+two-term-arg-requires : (t : ℕ) → two-lts.Need-term-arg-requires (two-claims t) (two-at t) two.Post
+two-term-arg-requires t c κs = search needs
+
+two-enum-told : (t : ℕ) → two-lts.Need-enum-told (two-claims t) (two-at t) two.Post
+two-enum-told t c = search needs
+
+two-enum-known-r : (t : ℕ) → two-lts.Need-enum-known-r (two-claims t) (two-at t) two.Post
+two-enum-known-r t c = search needs
+
+two-one-requires : (t : ℕ) → two-lts.Need-one-requires (two-claims t) (two-at t) two.Post
+two-one-requires t c κs =
+    let c-pre = c .before .before .before .before .before .pre in
+    let c-r = c .before .r in
+    let a = c .before .before .before .before .before .args in
+    omega (arith, reaches.term-in (a .left) (a .base + a .at) (a .at) (a .part .now) (c-r .given .0 .0) (c-pre .1 .0) (sym (ap reached (c-r .given .1)) ∙ c .before .before .before .term-arg .ensures), c-pre)
+
+two-returns : (t : ℕ) → two-lts.Need-returns (two-claims t) (two-at t) two.Post
+two-returns t c =
+    let c-enum-told = c .enum-told in
+    let a = c .before .before .before .before .args in
+    ap reached (c-enum-told .given .1) ∙ reaches.two-no-term (a .left) (a .base) (a .at) (a .part .now) (a .d) _ _
+    (sym (ap reached (c-enum-told .given .1)) ∙ c .before .before .term-arg .ensures)
+
+two-returns-2 : (t : ℕ) → two-lts.Need-returns-2 (two-claims t) (two-at t) two.Post
+two-returns-2 t c =
+    let c-term-arg = c .before .before .before .before .term-arg in
+    let c-r = c .before .before .r in
+    let a = c .before .before .before .before .before .before .args in
+    reaches.two-one (a .left) (a .base) (a .at) (a .part .now) (a .d) (c-r .given .0 .0) (sym (ap reached (c-r .given .1)) ∙ c-term-arg .ensures) _
+    (c .one .ensures)
+
+pub +one+term-arg+two-spec : {M : Type 1} → statement M
++one+term-arg+two-spec = close μ-one μ-term-arg μ-two (λ t. one-lts.spec (one-claims t) (one-at t) one.Post
+    (one-term-arg-requires t)
+    (one-enum-told t)
+    (one-enum-known-r t)
+    (one-dest-requires t)
+    (one-returns t)
+    (one-returns-2 t))
+    (λ t. term-arg-lts.spec (term-arg-claims t) (term-arg-at t) term-arg.Post
+    (term-arg-add-t10 t)
+    (term-arg-returns t)
+    (term-arg-add-t13 t)
+    (term-arg-returns-2 t)
+    (term-arg-shared-slice-read-term-op t)
+    (term-arg-term-op-requires t)
+    (term-arg-enum-told t)
+    (term-arg-add-t18 t)
+    (term-arg-enum-told-2 t)
+    (term-arg-add-t19 t)
+    (term-arg-enum-known-op t)
+    (term-arg-add-bytes t)
+    (term-arg-bytes-requires t)
+    (term-arg-enum-told-3 t)
+    (term-arg-add-t21 t)
+    (term-arg-enum-told-4 t)
+    (term-arg-add-cell t)
+    (term-arg-cell-requires t)
+    (term-arg-enum-known-op-2 t)
+    (term-arg-add-one t)
+    (term-arg-sub-one t)
+    (term-arg-one-requires t)
+    (term-arg-enum-known-op-3 t)
+    (term-arg-add-two t)
+    (term-arg-sub-two t)
+    (term-arg-two-requires t)
+    (term-arg-enum-told-5 t)
+    (term-arg-add-t27 t)
+    (term-arg-returns-3 t)
+    (term-arg-returns-4 t)
+    (term-arg-returns-5 t)
+    (term-arg-returns-6 t)
+    (term-arg-returns-7 t)
+    (term-arg-returns-8 t)
+    (term-arg-returns-9 t)
+    (term-arg-returns-10 t))
+    λ t. two-lts.spec
+    (term-arg-below t, term-arg.Post, one-below t, one.Post)
+    (two-at t)
+    two.Post
+    (two-term-arg-requires t)
+    (two-enum-told t)
+    (two-enum-known-r t)
+    (two-one-requires t)
+    (two-returns t)
+    (two-returns-2 t)

@@ -1,0 +1,47 @@
+-- Each return is one case of the definition: the end, a cell, another byte.
+use mathlib.Core.Path.{sym, _∙_}
+use Prim.Native.Nat.{_+_}
+use Rattle.statement.proofs.Reaches.{cell-end, cell-here, cell-not}
+use borrow.Author.Needs.{needs}
+use Rattle.statement.proofs.term.cell.Statement.{statement}
+use Rattle.statement.proofs.term.cell.Tie as tie
+
+add-t6 : tie.Need-add-t6
+add-t6 c = search needs
+
+returns : tie.Need-returns
+returns c =
+    let a = c .before .before .args in cell-end (a .base + a .at) (a .at) (a .part .now) (c .if1 .taken)
+
+shared-slice-read-is-cell : tie.Need-shared-slice-read-is-cell
+shared-slice-read-is-cell c = search needs
+
+is-cell-requires : tie.Need-is-cell-requires
+is-cell-requires c κs = search needs
+
+add-t12 : tie.Need-add-t12
+add-t12 c = search needs
+
+add-t13 : tie.Need-add-t13
+add-t13 c = search needs
+
+returns-2 : tie.Need-returns-2
+returns-2 c =
+    let a = c .before .before .before .before .before .args in cell-here (a .base + a .at) (a .at) (a .part .now) (c .before .before .before .if1 .left) (sym (c .before .is-cell .ensures) ∙ c .if2 .taken)
+
+returns-3 : tie.Need-returns-3
+returns-3 c =
+    let a = c .before .before .before .before .before .args in cell-not (a .base + a .at) (a .at) (a .part .now) (c .before .before .before .if1 .left) (sym (c .before .is-cell .ensures) ∙ c .if2 .left)
+
+pub cell-spec : {M : Type 1} → statement M
+cell-spec =
+    tie.close
+    (tie.spec
+    add-t6
+    returns
+    shared-slice-read-is-cell
+    is-cell-requires
+    add-t12
+    add-t13
+    returns-2
+    returns-3)

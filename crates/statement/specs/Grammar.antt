@@ -1,0 +1,79 @@
+-- The grammar: which bytes derive which tree, with so many depths left. Nothing here reads: a byte is what the tables say, and parts stand one behind the other.
+use Prim.Native.Nat.{ℕ, suc, _+_, _*_, _<_}
+use mathlib.Core.Path.{_≡_}
+use mathlib.Core.Bool.{true}
+use mathlib.Core.List.{List, [], _∷_, _++_}
+use lib.ListN.{length}
+use Rattle.pkg_length.specs.Little.{little}
+use Rattle.statement.specs.declared.opcode.Plain.{Plain}
+use Rattle.statement.specs.declared.opcode.StepOp.{StepOp}
+use Rattle.statement.specs.declared.opcode.OneOp.{OneOp}
+use Rattle.statement.specs.declared.opcode.TwoOp.{TwoOp}
+use Rattle.statement.specs.declared.opcode.Dest.{Dest}
+use Rattle.statement.specs.declared.opcode.Dest.the-variants.{Nowhere, ToCell, ToTarget}
+use Rattle.statement.specs.declared.opcode.TermOp.the-variants.{Constant, Ones, Bytes, Step, One, Two}
+use Rattle.statement.specs.declared.opcode.StmtOp.the-variants.{Simple, Return, If, While, Expr}
+use Rattle.statement.specs.Opcode.{«NULL_NAME», «LOCAL0_OP», «DEF_ELSE_OP», termOp, stmtOp, expression}
+use Rattle.statement.specs.Reading.{Target, nowhere, to, Term, const, ones, cell, step, one, two, Stmt, plain, return, ifElse, while, expr, Stmts, nil, cons}
+
+-- statements and terms of at most this depth
+abbrev pub depthLimit : ℕ
+depthLimit = 16
+
+-- Locals and Args
+abbrev pub cells : ℕ
+cells = 15
+
+-- a written cell: one byte
+pub data DCell : ℕ → List ℕ → Type 0 where
+  d-cell : {c : ℕ} → c < cells → DCell c ((«LOCAL0_OP» + c) ∷ [])
+
+-- where an operator's result goes: no byte, a cell, or a target, which is a cell or 00
+pub data DDest : Dest → Target → List ℕ → Type 0 where
+  d-nowhere : DDest Nowhere nowhere []
+  d-to-cell : {c : ℕ} {s : List ℕ} → DCell c s → DDest ToCell (to c) s
+  d-null : DDest ToTarget nowhere («NULL_NAME» ∷ [])
+  d-target : {c : ℕ} {s : List ℕ} → DCell c s → DDest ToTarget (to c) s
+
+-- terms; an operand is one deeper. Constants of 1, 2, 4 and 8 bytes are one rule
+pub data DTerm : ℕ → Term → List ℕ → Type 0 where
+  d-constant : {l b n : ℕ} → termOp b ≡ Constant n → DTerm (suc l) (const n) (b ∷ [])
+  d-ones : {l b : ℕ} → termOp b ≡ Ones → DTerm (suc l) ones (b ∷ [])
+  d-bytes : {l b : ℕ} {s : List ℕ} → termOp b ≡ Bytes (length s) → DTerm (suc l) (const (little s)) (b ∷ s)
+  d-read : {l c : ℕ} {s : List ℕ} → DCell c s → DTerm (suc l) (cell c) s
+  d-step : {l b c : ℕ} {o : StepOp} {s : List ℕ} → termOp b ≡ Step o → DCell c s → DTerm (suc l) (step o c) (b ∷ s)
+  d-one : {l b : ℕ} {o : OneOp} {d : Dest} {t : Term} {x : Target} {s w : List ℕ} →
+      termOp b ≡ One o d → DTerm l t s → DDest d x w → DTerm (suc l) (one o t x) (b ∷ s ++ w)
+  d-two : {l b : ℕ} {o : TwoOp} {d : Dest} {t u : Term} {x : Target} {s r w : List ℕ} →
+      termOp b ≡ Two o d → DTerm l t s → DTerm l u r → DDest d x w → DTerm (suc l) (two o t u x) (b ∷ s ++ (r ++ w))
+
+-- which bytes spell a raw length: bits 7-6 of the lead byte count the extra bytes (as it is a byte, at most 3), and bits 5-4 are ignored where there are any
+pub data Spells : ℕ → List ℕ → Type 0 where
+  spelt-plain : {n : ℕ} → n < 64 → Spells n (n ∷ [])
+  spelt-extra : {low ignored : ℕ} {xs : List ℕ} → 0 < length xs → low < 16 → ignored < 4 →
+      Spells (low + 16 * little xs) ((64 * length xs + (16 * ignored + low)) ∷ xs)
+
+-- a package of some contents: its length counts its own bytes
+pub data Package : List ℕ → List ℕ → Type 0 where
+  d-package : {n : ℕ} {h c : List ℕ} → Spells n h → n ≡ length h + length c → Package c (h ++ c)
+
+mutual
+  pub data DStmt : ℕ → Stmt → List ℕ → Type 0 where
+    d-plain : {l b : ℕ} {o : Plain} → stmtOp b ≡ Simple o → DStmt (suc l) (plain o) (b ∷ [])
+    d-return : {l b : ℕ} {t : Term} {s : List ℕ} → stmtOp b ≡ Return → DTerm depthLimit t s → DStmt (suc l) (return t) (b ∷ s)
+    d-if : {l b : ℕ} {t : Term} {xs ys : Stmts} {w e : List ℕ} → stmtOp b ≡ If → DHead l t xs w → DElse l ys e → DStmt (suc l) (ifElse t xs ys) (b ∷ w ++ e)
+    d-while : {l b : ℕ} {t : Term} {xs : Stmts} {w : List ℕ} → stmtOp b ≡ While → DHead l t xs w → DStmt (suc l) (while t xs) (b ∷ w)
+    d-expr : {l b : ℕ} {t : Term} {s : List ℕ} → stmtOp b ≡ Expr → expression (termOp b) ≡ true → DTerm depthLimit t (b ∷ s) → DStmt (suc l) (expr t) (b ∷ s)
+
+  -- a package of a predicate and a body; a body's statements are one deeper than their owner
+  pub data DHead : ℕ → Term → Stmts → List ℕ → Type 0 where
+    d-head : {l : ℕ} {t : Term} {xs : Stmts} {s b w : List ℕ} → DTerm depthLimit t s → DStmts l xs b → Package (s ++ b) w → DHead l t xs w
+
+  -- an else, or no byte: then it is the empty list
+  pub data DElse : ℕ → Stmts → List ℕ → Type 0 where
+    d-none : {l : ℕ} → DElse l nil []
+    d-else : {l : ℕ} {xs : Stmts} {b w : List ℕ} → DStmts l xs b → Package b w → DElse l xs («DEF_ELSE_OP» ∷ w)
+
+  pub data DStmts : ℕ → Stmts → List ℕ → Type 0 where
+    d-nil : {l : ℕ} → DStmts l nil []
+    d-cons : {l : ℕ} {x : Stmt} {xs : Stmts} {s b : List ℕ} → DStmt l x s → DStmts l xs b → DStmts l (cons x xs) (s ++ b)

@@ -1,0 +1,9 @@
+pub mod Opcode
+pub mod Reading
+pub mod Grammar
+pub mod Refusal
+pub mod Said
+pub mod Promise
+pub mod Frames
+pub mod Meaning
+pub mod Lent

@@ -1,0 +1,400 @@
+// Running a list of statements that was read, over a lent frame. What a function answers is small; `units` are those that are left.
+use crate::eval::Value;
+use crate::eval::eval;
+use crate::eval::term_arg;
+use crate::opcode;
+use crate::opcode::Plain;
+use crate::opcode::StmtOp;
+use pkg_length::PkgAnswer;
+ghost use mathlib.Core.Path.{_≡_};
+ghost use Prim.Native.Nat.{suc, _≤_, _<_};
+ghost use lib.ListN.{length, drop};
+ghost use Rattle.pkg_length.specs.Refusal.{blockLimit, gives};
+ghost use Rattle.statement.specs.Grammar.{depthLimit};
+ghost use Rattle.statement.specs.Refusal.{readTerm, readPackage, readHead, readElse, readIf, readStmt, readList};
+ghost use Rattle.statement.specs.Said.{upTo};
+ghost use Rattle.statement.specs.Lent.{Accepts, spanned, framed, ranIn, stepIn, turnIn, ranOf, stepOf, stepDo, whileDo, TurnsOk, turnOf, turnsBy, movedTo, plainTo, returnTo, dropTo};
+
+// How a statement or a list ended (parser.rs: Propagate).
+pub enum Out {
+    Finished,
+    Returned(u64),
+    BreakOut,
+    ContinueOut,
+    Spent,
+    Unset(usize),
+}
+
+pub struct Done {
+    pub units: u64,
+    pub out: Out,
+}
+
+// `next` is where reading goes on, if the statement finished.
+pub struct Moved {
+    pub units: u64,
+    pub next: usize,
+    pub out: Out,
+}
+
+// A package that was read before: its raw length, and how many bytes spell it.
+pub struct Span {
+    pub raw: usize,
+    pub used: usize,
+}
+
+fn finish(r: Done, next: usize) -> Moved
+    ensures { λ x. ⌜ x ≡ movedTo next r ⌝ }
+{
+    let out = r.out;
+    Moved {
+        units: r.units,
+        next,
+        out,
+    }
+}
+
+fn plain(op: Plain, units: u64, next: usize) -> Moved
+    ensures { λ r. ⌜ r ≡ plainTo op units next ⌝ }
+{
+    match op {
+        Plain::Break => Moved {
+            units,
+            next,
+            out: Out::BreakOut,
+        },
+        Plain::Continue => Moved {
+            units,
+            next,
+            out: Out::ContinueOut,
+        },
+        Plain::BreakPoint => Moved {
+            units,
+            next,
+            out: Out::Finished,
+        },
+        Plain::Noop => Moved {
+            units,
+            next,
+            out: Out::Finished,
+        },
+    }
+}
+
+fn def_return(v: Value, units: u64) -> Moved
+    ensures { λ r. ⌜ r ≡ returnTo v units ⌝ }
+{
+    match v {
+        Value::Num(n, next) => Moved {
+            units,
+            next,
+            out: Out::Returned(n),
+        },
+        Value::Missing(c) => Moved {
+            units,
+            next: 0,
+            out: Out::Unset(c),
+        },
+    }
+}
+
+// An expression's result is dropped.
+fn dropped(v: Value, units: u64) -> Moved
+    ensures { λ r. ⌜ r ≡ dropTo v units ⌝ }
+{
+    match v {
+        Value::Num(_, next) => Moved {
+            units,
+            next,
+            out: Out::Finished,
+        },
+        Value::Missing(c) => Moved {
+            units,
+            next: 0,
+            out: Out::Unset(c),
+        },
+    }
+}
+
+fn pkg(part: &[u8], at: usize) -> Span
+    requires { ⌜ (at ≤ length (now part)) × (length (now part) ≤ blockLimit) × Accepts (readPackage 0 (drop at (now part))) ⌝ }
+    ensures { λ r. ⌜ gives (spanned r) ≡ readPackage 0 (drop at (now (part .entry))) ⌝ }
+{
+    let w = pkg_length::pkg_length(&part[at..]);
+    match w {
+        PkgAnswer::Refused(_) => Span { raw: 0, used: 0 },
+        PkgAnswer::Read(length, used) => Span {
+            raw: length.raw_length,
+            used,
+        },
+    }
+}
+
+// Where an If whose package ends at `at` ends.
+fn else_end(part: &[u8], at: usize, left: usize) -> usize
+    requires { ⌜ (at ≤ length (now part)) × (length (now part) ≤ blockLimit) × Accepts (readElse (readList left) 0 (drop at (now part))) ⌝ }
+    ensures { λ r. ⌜ gives r ≡ upTo at (readElse (readList left) 0 (drop at (now (part .entry)))) ⌝ }
+{
+    if part.len() <= at {
+        return at;
+    }
+    if part[at] != opcode::DEF_ELSE_OP {
+        return at;
+    }
+    let w = pkg(part, at + 1);
+    at + 1 + w.raw
+}
+
+pub(crate) fn term_list(
+    part: &[u8],
+    left: usize,
+    set: &mut [bool; 15],
+    val: &mut [u64; 15],
+    units: u64,
+) -> Done
+    requires { ⌜ (length (now part) ≤ blockLimit) × Accepts (readList left 0 (now part)) ⌝ }
+    ensures { λ r. ⌜ ranIn (now (set .exit)) (now (val .exit)) r ≡ ranOf (readList left 0 (now (part .entry))) (framed (now (set .entry)) (now (val .entry))) units ⌝ }
+{
+    let mut at = 0;
+    let mut u = units;
+    while at < part.len() {
+        let r = statement_opcode(part, at, left, set, val, u);
+        let e = r.out;
+        match e {
+            Out::Finished => {
+                at = r.next;
+                u = r.units;
+            }
+            Out::Returned(n) => {
+                return Done {
+                    units: r.units,
+                    out: Out::Returned(n),
+                };
+            }
+            Out::BreakOut => {
+                return Done {
+                    units: r.units,
+                    out: Out::BreakOut,
+                };
+            }
+            Out::ContinueOut => {
+                return Done {
+                    units: r.units,
+                    out: Out::ContinueOut,
+                };
+            }
+            Out::Spent => {
+                return Done {
+                    units: r.units,
+                    out: Out::Spent,
+                };
+            }
+            Out::Unset(c) => {
+                return Done {
+                    units: r.units,
+                    out: Out::Unset(c),
+                };
+            }
+        }
+    }
+    Done {
+        units: u,
+        out: Out::Finished,
+    }
+}
+
+fn statement_opcode(
+    part: &[u8],
+    at: usize,
+    left: usize,
+    set: &mut [bool; 15],
+    val: &mut [u64; 15],
+    units: u64,
+) -> Moved
+    requires { ⌜ (at < length (now part)) × (length (now part) ≤ blockLimit) × Accepts (readStmt left 0 (drop at (now part))) ⌝ }
+    ensures { λ r. ⌜ stepIn (now (set .exit)) (now (val .exit)) r ≡ stepOf at (readStmt left 0 (drop at (now (part .entry)))) (framed (now (set .entry)) (now (val .entry))) units ⌝ }
+{
+    if units == 0 {
+        return Moved {
+            units: 0,
+            next: 0,
+            out: Out::Spent,
+        };
+    }
+    let u = units - 1;
+    let op = opcode::stmt_op(part[at]);
+    match op {
+        StmtOp::Simple(o) => plain(o, u, at + 1),
+        StmtOp::Return => def_return(eval(part, at + 1, 16, set, val), u),
+        StmtOp::If => def_if_else(part, at + 1, left - 1, set, val, u),
+        StmtOp::While => def_while(part, at + 1, left - 1, set, val, u),
+        StmtOp::Expr => dropped(term_arg(part, at, 16, set, val), u),
+    }
+}
+
+// An If from its package on.
+fn def_if_else(
+    part: &[u8],
+    at: usize,
+    left: usize,
+    set: &mut [bool; 15],
+    val: &mut [u64; 15],
+    units: u64,
+) -> Moved
+    requires { ⌜ (at ≤ length (now part)) × (length (now part) ≤ blockLimit) × Accepts (readIf (readList left) 0 (drop at (now part))) ⌝ }
+    ensures { λ r. ⌜ stepIn (now (set .exit)) (now (val .exit)) r ≡ stepDo at (readIf (readList left) 0 (drop at (now (part .entry)))) (framed (now (set .entry)) (now (val .entry))) units ⌝ }
+{
+    let w = pkg(part, at);
+    let end = at + w.raw;
+    let v = eval(part, at + w.used, 16, set, val);
+    match v {
+        Value::Missing(c) => Moved {
+            units,
+            next: 0,
+            out: Out::Unset(c),
+        },
+        Value::Num(predicate, body) => {
+            let next = else_end(part, end, left);
+            if predicate == 0 {
+                finish(def_else(part, end, left, set, val, units), next)
+            } else {
+                finish(term_list(&part[body..end], left, set, val, units), next)
+            }
+        }
+    }
+}
+
+// What follows an If's package: an else, or nothing.
+fn def_else(
+    part: &[u8],
+    at: usize,
+    left: usize,
+    set: &mut [bool; 15],
+    val: &mut [u64; 15],
+    units: u64,
+) -> Done
+    requires { ⌜ (at ≤ length (now part)) × (length (now part) ≤ blockLimit) × Accepts (readElse (readList left) 0 (drop at (now part))) ⌝ }
+    ensures { λ r. ⌜ ranIn (now (set .exit)) (now (val .exit)) r ≡ ranOf (readElse (readList left) 0 (drop at (now (part .entry)))) (framed (now (set .entry)) (now (val .entry))) units ⌝ }
+{
+    if part.len() <= at {
+        return Done {
+            units,
+            out: Out::Finished,
+        };
+    }
+    if part[at] != opcode::DEF_ELSE_OP {
+        return Done {
+            units,
+            out: Out::Finished,
+        };
+    }
+    let w = pkg(part, at + 1);
+    let body = at + 1 + w.used;
+    let end = at + 1 + w.raw;
+    term_list(&part[body..end], left, set, val, units)
+}
+
+fn def_while(
+    part: &[u8],
+    at: usize,
+    left: usize,
+    set: &mut [bool; 15],
+    val: &mut [u64; 15],
+    units: u64,
+) -> Moved
+    requires { ⌜ (at ≤ length (now part)) × (length (now part) ≤ blockLimit) × Accepts (readHead (readList left) 0 (drop at (now part))) ⌝ }
+    ensures { λ r. ⌜ stepIn (now (set .exit)) (now (val .exit)) r ≡ whileDo at (readHead (readList left) 0 (drop at (now (part .entry)))) (framed (now (set .entry)) (now (val .entry))) units ⌝ }
+{
+    let w = pkg(part, at);
+    let end = at + w.raw;
+    finish(turns(part, at + w.used, end, left, set, val, units), end)
+}
+
+fn turns(
+    part: &[u8],
+    at: usize,
+    end: usize,
+    left: usize,
+    set: &mut [bool; 15],
+    val: &mut [u64; 15],
+    units: u64,
+) -> Done
+    requires { ⌜ (end ≤ length (now part)) × (length (now part) ≤ blockLimit) × TurnsOk left (now part) end at (readTerm depthLimit 0 (drop at (now part))) ⌝ }
+    ensures { λ r. ⌜ ranIn (now (set .exit)) (now (val .exit)) r ≡ turnsBy left (now (part .entry)) end at (readTerm depthLimit 0 (drop at (now (part .entry)))) (suc units) (framed (now (set .entry)) (now (val .entry))) units ⌝ }
+{
+    let mut u = units;
+    loop {
+        let t = turn(part, at, end, left, set, val, u);
+        let d = t.out;
+        match d {
+            // The next turn.
+            Out::Finished => {
+                u = t.units; // after the body
+            }
+            Out::ContinueOut => {
+                u = t.units; // after a Continue
+            }
+            Out::Returned(n) => {
+                return Done {
+                    units: t.units,
+                    out: Out::Returned(n),
+                };
+            }
+            Out::BreakOut => {
+                return Done {
+                    units: t.units,
+                    out: Out::Finished,
+                };
+            }
+            Out::Spent => {
+                return Done {
+                    units: t.units,
+                    out: Out::Spent,
+                };
+            }
+            Out::Unset(c) => {
+                return Done {
+                    units: t.units,
+                    out: Out::Unset(c),
+                };
+            }
+        }
+    }
+}
+
+// One turn of a While. It answers as its body does; a predicate of zero answers as a Break.
+fn turn(
+    part: &[u8],
+    at: usize,
+    end: usize,
+    left: usize,
+    set: &mut [bool; 15],
+    val: &mut [u64; 15],
+    units: u64,
+) -> Done
+    requires { ⌜ (end ≤ length (now part)) × (length (now part) ≤ blockLimit) × TurnsOk left (now part) end at (readTerm depthLimit 0 (drop at (now part))) ⌝ }
+    ensures { λ r. ⌜ turnIn (now (set .exit)) (now (val .exit)) r ≡ turnOf left (now (part .entry)) end at (readTerm depthLimit 0 (drop at (now (part .entry)))) (framed (now (set .entry)) (now (val .entry))) units ⌝ }
+{
+    if units == 0 {
+        return Done {
+            units: 0,
+            out: Out::Spent,
+        };
+    }
+    let v = eval(part, at, 16, set, val);
+    match v {
+        Value::Missing(c) => Done {
+            units: units - 1,
+            out: Out::Unset(c),
+        },
+        Value::Num(x, body) => {
+            if x == 0 {
+                return Done {
+                    units: units - 1,
+                    out: Out::BreakOut,
+                };
+            }
+            term_list(&part[body..end], left, set, val, units - 1)
+        }
+    }
+}

@@ -1,0 +1,91 @@
+// Control blocks (statement.rs): the check of a block, and its run.
+use crate::exec::Out;
+use crate::frame::Frame;
+use crate::term::Reach;
+use pkg_length::AmlError;
+ghost use mathlib.Core.Path.{_≡_};
+ghost use Rattle.statement.specs.Lent.{outSaid};
+ghost use Rattle.statement.specs.Promise.{Checked, HasRun, endSaid};
+
+mod eval;
+mod exec;
+pub mod frame;
+mod number;
+mod opcode;
+mod read;
+mod term;
+
+pub enum CheckAnswer {
+    Accepted,
+    Refused(AmlError),
+}
+
+// Whether a block is well formed: the grammar derives it, within the limits.
+pub fn check(block: &[u8]) -> CheckAnswer
+    ensures { λ r. ⌜ Checked (now (block .entry)) r ⌝ }
+{
+    if 65536 < block.len() {
+        return CheckAnswer::Refused(AmlError::BlockTooLong);
+    }
+    let r = read::term_list(block, 0, 16);
+    match r {
+        Reach::Next(_) => CheckAnswer::Accepted,
+        Reach::Refused(e) => CheckAnswer::Refused(e),
+    }
+}
+
+// How a run ended.
+pub enum End {
+    Finished,
+    Returned(u64),
+    BreakOut,
+    ContinueOut,
+    Refused(AmlError),
+}
+
+// With the units used, and the frame.
+pub struct RunAnswer {
+    pub end: End,
+    pub units: u64,
+    pub frame: Frame,
+}
+
+// Checks the whole block, then executes it. A block that is refused leaves the frame as it came, and takes no unit.
+pub fn run(block: &[u8], frame: Frame, budget: u64) -> RunAnswer
+    ensures { λ r. ⌜ HasRun (now (block .entry)) frame budget r ⌝ }
+{
+    let v = check(block);
+    match v {
+        CheckAnswer::Refused(e) => RunAnswer {
+            end: End::Refused(e),
+            units: 0,
+            frame,
+        },
+        CheckAnswer::Accepted => {
+            let mut set = frame.set;
+            let mut val = frame.val;
+            let r = exec::term_list(block, 16, &mut set, &mut val, budget);
+            let out = r.out;
+            let end = ended(out);
+            let left = Frame { set, val };
+            RunAnswer {
+                end,
+                units: budget - r.units,
+                frame: left,
+            }
+        }
+    }
+}
+
+fn ended(out: Out) -> End
+    ensures { λ r. ⌜ endSaid r ≡ outSaid out ⌝ }
+{
+    match out {
+        Out::Finished => End::Finished,
+        Out::Returned(n) => End::Returned(n),
+        Out::BreakOut => End::BreakOut,
+        Out::ContinueOut => End::ContinueOut,
+        Out::Spent => End::Refused(AmlError::BudgetSpent),
+        Out::Unset(c) => End::Refused(AmlError::Unset(c)),
+    }
+}

@@ -1,0 +1,115 @@
+// Reading a term without running it: each function goes over the bytes of a part from `at` on, and answers where reading goes on, or the refusal.
+// `base` is where the part begins in its block, and `left` how many depths are left.
+use crate::opcode;
+use crate::opcode::Dest;
+use crate::opcode::TermOp;
+use pkg_length::AmlError;
+ghost use mathlib.Core.Path.{_≡_};
+ghost use Prim.Native.Nat.{_+_, _≤_};
+ghost use lib.ListN.{length, drop};
+ghost use Rattle.pkg_length.specs.Refusal.{blockLimit};
+ghost use Rattle.statement.specs.Refusal.{readBytes, readCell, readDest, readOne, readTwo, readTerm};
+ghost use Rattle.statement.specs.Said.{reached, upTo};
+
+pub enum Reach {
+    Next(usize),
+    Refused(AmlError),
+}
+
+// A constant's n bytes.
+fn bytes(part: &[u8], base: usize, at: usize, n: usize) -> Reach
+    requires { ⌜ (at ≤ length (now part)) × (base + length (now part) ≤ blockLimit) ⌝ }
+    ensures { λ r. ⌜ reached r ≡ upTo at (readBytes n (base + at) (drop at (now (part .entry)))) ⌝ }
+{
+    if part.len() - at < n {
+        return Reach::Refused(AmlError::UnexpectedEndOfStream(base + part.len()));
+    }
+    Reach::Next(at + n)
+}
+
+// A written cell.
+fn cell(part: &[u8], base: usize, at: usize) -> Reach
+    requires { ⌜ (at ≤ length (now part)) × (base + length (now part) ≤ blockLimit) ⌝ }
+    ensures { λ r. ⌜ reached r ≡ upTo at (readCell (base + at) (drop at (now (part .entry)))) ⌝ }
+{
+    if part.len() <= at {
+        return Reach::Refused(AmlError::UnexpectedEndOfStream(base + at));
+    }
+    if opcode::is_cell(part[at]) {
+        Reach::Next(at + 1)
+    } else {
+        Reach::Refused(AmlError::BadOpcode(base + at))
+    }
+}
+
+// Where an operator's result goes.
+fn dest(part: &[u8], base: usize, at: usize, d: Dest) -> Reach
+    requires { ⌜ (at ≤ length (now part)) × (base + length (now part) ≤ blockLimit) ⌝ }
+    ensures { λ r. ⌜ reached r ≡ upTo at (readDest d (base + at) (drop at (now (part .entry)))) ⌝ }
+{
+    match d {
+        Dest::Nowhere => Reach::Next(at),
+        Dest::ToCell => cell(part, base, at),
+        Dest::ToTarget => target(part, base, at),
+    }
+}
+
+fn target(part: &[u8], base: usize, at: usize) -> Reach
+    requires { ⌜ (at ≤ length (now part)) × (base + length (now part) ≤ blockLimit) ⌝ }
+    ensures { λ r. ⌜ reached r ≡ upTo at (readDest Dest.ToTarget (base + at) (drop at (now (part .entry)))) ⌝ }
+{
+    if part.len() <= at {
+        return Reach::Refused(AmlError::UnexpectedEndOfStream(base + at));
+    }
+    if part[at] == opcode::NULL_NAME {
+        return Reach::Next(at + 1);
+    }
+    cell(part, base, at)
+}
+
+pub(crate) fn term_arg(part: &[u8], base: usize, at: usize, left: usize) -> Reach
+    requires { ⌜ (at ≤ length (now part)) × (base + length (now part) ≤ blockLimit) ⌝ }
+    ensures { λ r. ⌜ reached r ≡ upTo at (readTerm left (base + at) (drop at (now (part .entry)))) ⌝ }
+{
+    if left == 0 {
+        return Reach::Refused(AmlError::TooDeep(base + at));
+    }
+    if part.len() <= at {
+        return Reach::Refused(AmlError::UnexpectedEndOfStream(base + at));
+    }
+    let op = opcode::term_op(part[at]);
+    match op {
+        TermOp::Constant(_) => Reach::Next(at + 1),
+        TermOp::Ones => Reach::Next(at + 1),
+        TermOp::Bytes(n) => bytes(part, base, at + 1, n),
+        TermOp::Cell(_) => Reach::Next(at + 1),
+        TermOp::Step(_) => cell(part, base, at + 1),
+        TermOp::One(_, d) => one(part, base, at + 1, left - 1, d),
+        TermOp::Two(_, d) => two(part, base, at + 1, left - 1, d),
+        TermOp::BadTerm => Reach::Refused(AmlError::BadOpcode(base + at)),
+    }
+}
+
+// An operand, and where the result goes.
+fn one(part: &[u8], base: usize, at: usize, left: usize, d: Dest) -> Reach
+    requires { ⌜ (at ≤ length (now part)) × (base + length (now part) ≤ blockLimit) ⌝ }
+    ensures { λ r. ⌜ reached r ≡ upTo at (readOne (readTerm left) d (base + at) (drop at (now (part .entry)))) ⌝ }
+{
+    let r = term_arg(part, base, at, left);
+    match r {
+        Reach::Refused(_) => r,
+        Reach::Next(next) => dest(part, base, next, d),
+    }
+}
+
+// An operand before that.
+fn two(part: &[u8], base: usize, at: usize, left: usize, d: Dest) -> Reach
+    requires { ⌜ (at ≤ length (now part)) × (base + length (now part) ≤ blockLimit) ⌝ }
+    ensures { λ r. ⌜ reached r ≡ upTo at (readTwo (readTerm left) d (base + at) (drop at (now (part .entry)))) ⌝ }
+{
+    let r = term_arg(part, base, at, left);
+    match r {
+        Reach::Refused(_) => r,
+        Reach::Next(next) => one(part, base, next, left, d),
+    }
+}
