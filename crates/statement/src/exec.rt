@@ -165,36 +165,26 @@ pub(crate) fn term_list(
                 at = r.next;
                 u = r.units;
             }
-            Out::Returned(n) => {
-                return Done {
-                    units: r.units,
-                    out: Out::Returned(n),
-                };
-            }
-            Out::BreakOut => {
-                return Done {
-                    units: r.units,
-                    out: Out::BreakOut,
-                };
-            }
-            Out::ContinueOut => {
-                return Done {
-                    units: r.units,
-                    out: Out::ContinueOut,
-                };
-            }
-            Out::Spent => {
-                return Done {
-                    units: r.units,
-                    out: Out::Spent,
-                };
-            }
-            Out::Unset(c) => {
-                return Done {
-                    units: r.units,
-                    out: Out::Unset(c),
-                };
-            }
+            Out::Returned(n) => return Done {
+                units: r.units,
+                out: Out::Returned(n),
+            },
+            Out::BreakOut => return Done {
+                units: r.units,
+                out: Out::BreakOut,
+            },
+            Out::ContinueOut => return Done {
+                units: r.units,
+                out: Out::ContinueOut,
+            },
+            Out::Spent => return Done {
+                units: r.units,
+                out: Out::Spent,
+            },
+            Out::Unset(c) => return Done {
+                units: r.units,
+                out: Out::Unset(c),
+            },
         }
     }
     Done {
