@@ -23,8 +23,8 @@ use Rattle.statement.specs.Opcode.{isCell, termOp}
 use Rattle.statement.specs.Reading.{Target, to, Term, const, ones, cell}
 use Rattle.statement.specs.Refusal.{Read, read, reads, thenRead, readBytes, readCell, readDest, Operand, operand, Operands, before, readOne, readTwo, termBy, readTerm}
 use Rattle.statement.specs.Frames.{wrote}
-use Rattle.statement.specs.Meaning.{allOnes, stepped, unary, binary, Ev, got, lacks, onValue, load, put, eval}
-use Rattle.statement.specs.Lent.{width, Accepts, Evaled, evAt, evaledBy, evOne, evTwo, evSecond, evPut}
+use Rattle.statement.specs.Meaning.{width, allOnes, stepped, unary, binary, Ev, got, lacks, onValue, load, put, eval}
+use Rattle.statement.specs.Lent.{Accepts, Evaled, evAt, evaledBy, evOne, evTwo, evSecond, evPut}
 use Rattle.statement.proofs.Answers.{Takes, then-by, pick-ok}
 use Rattle.statement.proofs.Terms.{term-sound, cell-sound}
 use Rattle.statement.proofs.Reaches.{here, term-is-by}

@@ -19,11 +19,7 @@ use Rattle.statement.specs.declared.exec.Done.{Done}
 use Rattle.statement.specs.declared.exec.Moved.{Moved}
 use Rattle.statement.specs.Reading.{Target, Term, Stmt, Stmts}
 use Rattle.statement.specs.Refusal.{Read, read, Operand, operand, Operands, oneOf, twoOf, Head, whileOf, readList}
-use Rattle.statement.specs.Meaning.{binary, Ev, got, lacks, onValue, put, eval, Ended, finished, returned, breakOut, continueOut, Ran, ended, spend, goOf, Turn, turned, oneTurn, turns, doStmt, doStmts}
-
--- numbers have 64 bits
-abbrev pub width : ℕ
-width = 64
+use Rattle.statement.specs.Meaning.{width, binary, Ev, got, lacks, onValue, put, eval, Ended, finished, returned, breakOut, continueOut, Ran, ended, spend, goOf, Turn, turned, oneTurn, turns, doStmt, doStmts}
 
 -- something was read
 abbrev pub Accepts : {A : Type 0} → Answer A → Type 0

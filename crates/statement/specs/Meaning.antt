@@ -18,6 +18,10 @@ use Rattle.statement.specs.Frames.{held, wrote}
 
 -- ## Numbers
 
+-- numbers have 64 bits
+abbrev pub width : ℕ
+width = 64
+
 -- the largest number of w bits
 abbrev pub allOnes : ℕ → ℕ
 allOnes w = 2 ^ w - 1

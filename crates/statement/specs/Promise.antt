@@ -12,8 +12,7 @@ use Rattle.statement.specs.declared.frame.Frame.{Frame}
 use Rattle.statement.specs.Reading.{Stmts}
 use Rattle.statement.specs.Grammar.{depthLimit, DStmts}
 use Rattle.statement.specs.Refusal.{readBlock}
-use Rattle.statement.specs.Meaning.{Ended, finished, returned, breakOut, continueOut, Outcome, mean}
-use Rattle.statement.specs.Lent.{width}
+use Rattle.statement.specs.Meaning.{width, Ended, finished, returned, breakOut, continueOut, Outcome, mean}
 
 -- the grammar derives the block, as this tree, within the limits
 pub record Derives (s : List ℕ) (tree : Stmts) : Type 0 where

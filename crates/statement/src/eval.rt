@@ -14,8 +14,8 @@ ghost use Rattle.statement.specs.Grammar.{cells};
 ghost use Rattle.statement.specs.Reading.{to};
 ghost use Rattle.statement.specs.Refusal.{readDest, readOne, readTwo, readTerm};
 ghost use Rattle.statement.specs.Frames.{wrote};
-ghost use Rattle.statement.specs.Meaning.{load, onValue, put, stepped, eval};
-ghost use Rattle.statement.specs.Lent.{width, Accepts, framed, evIn, evAt, evaledBy, evOne, evTwo, evSecond, evPut};
+ghost use Rattle.statement.specs.Meaning.{width, load, onValue, put, stepped, eval};
+ghost use Rattle.statement.specs.Lent.{Accepts, framed, evIn, evAt, evaledBy, evOne, evTwo, evSecond, evPut};
 
 // A term's number and where reading goes on, or the unset cell that was read.
 pub enum Value {

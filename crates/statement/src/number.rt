@@ -6,7 +6,7 @@ ghost use mathlib.Core.Path.{_≡_};
 ghost use mathlib.Core.Bool.{not};
 ghost use lib.Dec.{eqb};
 ghost use Rattle.statement.specs.Meaning as meaning;
-ghost use Rattle.statement.specs.Lent.{width};
+ghost use Rattle.statement.specs.Meaning.{width};
 
 pub const ALL_ONES: u64 = 0xffff_ffff_ffff_ffff;
 

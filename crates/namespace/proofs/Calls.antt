@@ -1,0 +1,65 @@
+-- A call is its work on the tree that memory means and the keys of its path; before them, 24 and what the path is refused with.
+use mathlib.Core.Path.{_≡_, refl, ap, sym, _∙_}
+use mathlib.Core.Bool.{Bool, true, false}
+use mathlib.Core.List.{List}
+use Prim.Native.Nat.{ℕ}
+use native.Mathlib.Omega.{arith}
+use Rattle.pkg_length.specs.Refusal.{Answer, gives, refuses, refused, andThen}
+use Rattle.pkg_length.specs.declared.AmlError.{AmlError}
+use Rattle.namespace.specs.Limits.{Limits}
+use Rattle.namespace.specs.Tree.{Tree}
+use Rattle.namespace.specs.Memory.{wellFormed, decode, means, Edited, Left, left}
+use Rattle.namespace.proofs.Objects.{means-formed, means-unformed}
+
+module _ {A B : Type 0} (m : Limits) (ws : List ℕ) (next : Tree → A → Answer B) (a : Answer A) where
+  pub call-bad : wellFormed m ws ≡ false → refuses 24 0 ≡ andThen (means m ws) (λ t. andThen a (λ p. next t p))
+  call-bad h = rw (means-unformed m ws h)
+
+  module _ (ok : wellFormed m ws ≡ true) where
+    pub call-given : (p : A) → a ≡ gives p → next (decode m ws) p ≡ andThen (means m ws) (λ t. andThen a (λ p. next t p))
+    call-given p e = rw (means-formed m ws ok, e)
+
+    pub call-refused : (e : AmlError) → a ≡ refused e → refused e ≡ andThen (means m ws) (λ t. andThen a (λ p. next t p))
+    call-refused e f = rw (means-formed m ws ok, f)
+
+-- a call with no path
+module _ {B : Type 0} (m : Limits) (ws : List ℕ) (next : Tree → Answer B) where
+  pub mean-bad : wellFormed m ws ≡ false → refuses 24 0 ≡ andThen (means m ws) next
+  mean-bad h = rw (means-unformed m ws h)
+
+  pub mean-given : wellFormed m ws ≡ true → next (decode m ws) ≡ andThen (means m ws) next
+  mean-given h = rw (means-formed m ws h)
+
+-- a call that goes on from what another gave
+module _ {A B C : Type 0} (m : Limits) (ws : List ℕ) (a : Answer A) (first : Tree → A → Answer B) (then : Tree → B → Answer C) where
+  pub call-formed : (x : B) → gives x ≡ andThen (means m ws) (λ t. andThen a (λ p. first t p)) → wellFormed m ws ≡ true
+  call-formed x e = go (wellFormed m ws) refl
+    where
+      go : (t : Bool) → wellFormed m ws ≡ t → wellFormed m ws ≡ true
+      go true h = h
+      go false h = absurd (let d : gives x ≡ refuses 24 0 = e ∙ rw (means-unformed m ws h) in let z : _≡_ {A = ℕ} 0 1 = cc in omega arith)
+
+  both-calls : wellFormed m ws ≡ true → andThen (means m ws) (λ t. andThen a (λ p. andThen (first t p) (then t))) ≡ andThen (andThen (means m ws) (λ t. andThen a (λ p. first t p))) (then (decode m ws))
+  both-calls h = rw (means-formed m ws h) (swap a)
+    where
+      swap : (a : Answer A) → andThen a (λ p. andThen (first (decode m ws) p) (then (decode m ws))) ≡ andThen (andThen a (λ p. first (decode m ws) p)) (then (decode m ws))
+      swap (gives p) = refl
+      swap (refuses n k) = refl
+
+  pub then-given : (x : B) → gives x ≡ andThen (means m ws) (λ t. andThen a (λ p. first t p)) → then (decode m ws) x ≡ andThen (means m ws) (λ t. andThen a (λ p. andThen (first t p) (then t)))
+  then-given x e = sym (both-calls (call-formed x e) ∙ rw (← e))
+
+  pub then-refused : (n k : ℕ) → refuses n k ≡ andThen (means m ws) (λ t. andThen a (λ p. first t p)) → refuses n k ≡ andThen (means m ws) (λ t. andThen a (λ p. andThen (first t p) (then t)))
+  then-refused n k e = go (wellFormed m ws) refl
+    where
+      go : (t : Bool) → wellFormed m ws ≡ t → refuses n k ≡ andThen (means m ws) (λ t. andThen a (λ p. andThen (first t p) (then t)))
+      go true h = sym (both-calls h ∙ rw (← e))
+      go false h =
+          let d : _≡_ {A = Answer B} (refuses n k) (refuses 24 0) = e ∙ rw (means-unformed m ws h) in
+          let e₁ : n ≡ 24 = cc in
+          let e₂ : k ≡ 0 = cc in
+          rw (means-unformed m ws h) (λ i. refuses (e₁ i) (e₂ i))
+
+-- a refusal leaves the words
+pub left-kept : {A : Type 0} (m : Limits) (ws : List ℕ) (n p : ℕ) (a : Answer (Edited A)) → refuses n p ≡ a → record { words = ws; said = refuses n p } ≡ left m ws a
+left-kept m ws n p a e = rw (← e)

@@ -1,0 +1,195 @@
+-- What lookup, a value more and an alias leave in memory and say, by where the path's last segment is.
+use mathlib.Core.Path.{_≡_, refl, ap, ap₂, sym, subst, _∙_}
+use mathlib.Core.Bool.{Bool, true, false}
+use mathlib.Core.List.{List, [], _∷_, _++_}
+use Prim.Native.Nat.{ℕ, zero, suc, _+_, _*_, _-_, _<_, _≤_}
+use native.Mathlib.Omega.{arith}
+use lib.Dec.{leb}
+use lib.ListN.{length, take, drop, getD, set}
+use lib.Seq.{getD-take, getD-drop}
+use borrow.Author.Tests.{lt-leb, le-leb}
+use Rattle.pkg_length.specs.Refusal.{Answer, gives, refuses, refused, andThen, pick}
+use Rattle.pkg_length.specs.declared.AmlError.{AmlError}
+use Rattle.name_object.specs.Component.{Component, componentLimit}
+use Rattle.name_object.specs.Memory.{pathOk, pathOf, pathIn}
+use Rattle.name_object.specs.declared.AmlName.{AmlName}
+use Rattle.name_object.proofs.Paths.{both}
+use Rattle.path.specs.Normal.{resolved}
+use Rattle.namespace.specs.Limits.{Limits}
+use Rattle.namespace.specs.Tree.{Binding, Forest, Tree, bound, keys}
+use Rattle.namespace.specs.Layout.{encode}
+use Rattle.namespace.specs.Memory.{wellFormed, decode, Edited, Left, left}
+use Rattle.namespace.specs.Edits.{alter, scopeOf, lastOf, withBinding, withLevels, withObjects, nextHandle, lookUp, bind, addValue, addAlias}
+use Rattle.namespace.specs.Calls.{aliasAt, addAliasCall}
+use Rattle.namespace.specs.Inside.{spotIn, bindWords}
+use Rattle.namespace.specs.declared.inner.Spot.{Spot}
+use Rattle.namespace.proofs.Shape.{clash}
+use Rattle.namespace.proofs.Whole.{Whole}
+use Rattle.namespace.proofs.Objects.{whole, made-is, means-formed, means-unformed}
+use Rattle.namespace.proofs.Held.{bindings-room, bindings-full}
+use Rattle.namespace.proofs.BindCalls.{spot-refused, spot-bound, spot-live, spot-open, Open}
+use Rattle.namespace.proofs.BindWords.{bind-full, bind-room, bound-words, value-words}
+
+module _ {A : Type 0} (m : Limits) (ws : List ℕ) where
+  given : (us : List ℕ) (t : Tree) (x : A) (a : Answer (Edited A)) → a ≡ gives (record { tree = t; value = x }) → us ≡ encode m t → record { words = us; said = gives x } ≡ left m ws a
+  given us t x a e f = rw e (λ i. record { words = f i; said = gives x })
+
+  kept : (n q : ℕ) (a : Answer (Edited A)) → a ≡ refuses n q → record { words = ws; said = refuses n q } ≡ left m ws a
+  kept n q a e = rw e
+
+-- a value more, once its binding is known
+module _ (m : Limits) (t : Tree) (p : List ℕ) (v : ℕ) where
+  add-refused : (n q : ℕ) → bind m t p (nextHandle t) ≡ refuses n q → addValue m t p v ≡ refuses n q
+  unfolding addValue
+  add-refused n q e = rw e
+
+  add-full : (u : Tree) → bind m t p (nextHandle t) ≡ gives u → m .objects ≤ length (t .objects) → addValue m t p v ≡ refuses 20 0
+  unfolding addValue
+  add-full u e l = rw (e, le-leb (m .objects) (length (t .objects)) l)
+
+  add-given : (u : Tree) → bind m t p (nextHandle t) ≡ gives u → length (t .objects) < m .objects
+      → addValue m t p v ≡ gives (record { tree = withObjects u (t .objects ++ (v ∷ [])); value = length (t .objects) })
+  unfolding addValue
+  add-given u e l = rw (e, lt-leb (m .objects) (length (t .objects)) l)
+
+module _ (m : Limits) (t : Tree) (p q : List ℕ) where
+  alias-aim : (n k : ℕ) → lookUp t q ≡ refuses n k → addAlias m t p q ≡ refuses n k
+  unfolding addAlias
+  alias-aim n k e = rw e
+
+  alias-refused : (h n k : ℕ) → lookUp t q ≡ gives h → bind m t p h ≡ refuses n k → addAlias m t p q ≡ refuses n k
+  unfolding addAlias
+  alias-refused h n k e f = rw (e, f)
+
+  alias-made : (h : ℕ) (u : Tree) → lookUp t q ≡ gives h → bind m t p h ≡ gives u → addAlias m t p q ≡ gives (record { tree = u; value = h })
+  unfolding addAlias
+  alias-made h u e f = rw (e, f)
+
+module _ (m : Limits) (hm : m .objects ≤ 4294967296) (ws : List ℕ) (ok : wellFormed m ws ≡ true) where
+  module _ (z : 0 < m .bindings) where
+    last-word : getD (take (m .bindings) (drop (m .levels) ws)) (m .bindings - 1) 0 ≡ getD ws (m .levels + (m .bindings - 1)) 0
+    last-word = getD-take (m .bindings) (drop (m .levels) ws) (m .bindings - 1) 0 (omega arith) ∙ getD-drop (m .levels) ws (m .bindings - 1) 0
+
+    room : getD ws (m .levels + (m .bindings - 1)) 0 ≡ 0 → length (bound (decode m ws .levels)) < m .bindings
+    room e = bindings-room m hm ws ok z (last-word ∙ e)
+
+    full : (getD ws (m .levels + (m .bindings - 1)) 0 ≡ 0 → ⊥) → m .bindings ≤ length (bound (decode m ws .levels))
+    full e = bindings-full m hm ws ok z (λ x. e (sym last-word ∙ x))
+
+  module _ (p : List ℕ) (r : Spot) (e : r ≡ spotIn (take (m .levels) ws) (take (m .bindings) (drop (m .levels) ws)) p) where
+    -- lookup
+    pub looked-bound : (h : ℕ) → r ≡ Spot.Bound h → (gives h ≡ lookUp (decode m ws) p) × (h < 4294967296)
+    looked-bound h d = (sym (spot-bound m hm ws ok p r e h d .0), omega (arith, spot-live m hm ws ok p r e h d, whole m hm ws ok .objects))
+
+    pub looked-free : (a i : ℕ) → r ≡ Spot.Free a i → refuses 16 0 ≡ lookUp (decode m ws) p
+    looked-free a i d = sym (spot-open m hm ws ok p r e a i d .looked)
+
+    pub looked-refused : (x : AmlError) → r ≡ Spot.Refused x → refused x ≡ lookUp (decode m ws) p
+    looked-refused x d = sym (spot-refused m hm ws ok p r e x d .0)
+
+    -- a value more
+    module _ (v : ℕ) where
+      pub valued-refused : (x : AmlError) → r ≡ Spot.Refused x → record { words = ws; said = refused x } ≡ left m ws (addValue m (decode m ws) p v)
+      valued-refused x d = kept m ws _ _ (addValue m (decode m ws) p v) (add-refused m (decode m ws) p v _ _ (spot-refused m hm ws ok p r e x d .1 (nextHandle (decode m ws))))
+
+      pub valued-bound : (h : ℕ) → r ≡ Spot.Bound h → record { words = ws; said = refuses 17 0 } ≡ left m ws (addValue m (decode m ws) p v)
+      valued-bound h d = kept m ws 17 0 (addValue m (decode m ws) p v) (add-refused m (decode m ws) p v 17 0 (spot-bound m hm ws ok p r e h d .1 (nextHandle (decode m ws))))
+
+      module _ (z : 0 < m .bindings) (a i : ℕ) (d : r ≡ Spot.Free a i) where
+        open-at : Open m hm ws ok p r e a i
+        open-at = spot-open m hm ws ok p r e a i d
+
+        pub valued-full : (getD ws (m .levels + (m .bindings - 1)) 0 ≡ 0 → ⊥) → record { words = ws; said = refuses 19 0 } ≡ left m ws (addValue m (decode m ws) p v)
+        valued-full f =
+            kept m ws 19 0 (addValue m (decode m ws) p v) (add-refused m (decode m ws) p v 19 0 (bind-full m hm ws ok p r e a i open-at (full z f) (nextHandle (decode m ws))))
+
+        module _ (f : getD ws (m .levels + (m .bindings - 1)) 0 ≡ 0) where
+          tied : bind m (decode m ws) p (length (decode m ws .objects))
+              ≡ gives (withLevels (decode m ws) (alter (withBinding (record { segment = lastOf p; handle = length (decode m ws .objects) })) (decode m ws .levels) (scopeOf p)))
+          tied = bind-room m hm ws ok p r e a i open-at (room z f) (length (decode m ws .objects))
+
+          pub valued-none : m .objects ≤ getD ws (m .levels + m .bindings) 0 → record { words = ws; said = refuses 20 0 } ≡ left m ws (addValue m (decode m ws) p v)
+          valued-none l = kept m ws 20 0 (addValue m (decode m ws) p v) (add-full m (decode m ws) p v _ tied (rw (made-is m hm ws ok) at l))
+
+          pub valued : getD ws (m .levels + m .bindings) 0 < m .objects → (us : List ℕ) → us ≡ bindWords m ws a i (lastOf p * 4294967296 + getD ws (m .levels + m .bindings) 0)
+              → record {
+                words = set (set us (m .levels + m .bindings + 1 + getD ws (m .levels + m .bindings) 0) v) (m .levels + m .bindings) (getD ws (m .levels + m .bindings) 0 + 1);
+                said = gives (getD ws (m .levels + m .bindings) 0);
+              } ≡ left m ws (addValue m (decode m ws) p v)
+          valued l us u =
+              ap₂ (λ (x : List ℕ) (n : ℕ). record { words = set (set x (m .levels + m .bindings + 1 + n) v) (m .levels + m .bindings) (n + 1); said = gives n })
+              (u ∙ ap (λ (n : ℕ). bindWords m ws a i (lastOf p * 4294967296 + n)) (made-is m hm ws ok)) (made-is m hm ws ok)
+              ∙ given m ws _ _ (length (decode m ws .objects)) (addValue m (decode m ws) p v) (add-given m (decode m ws) p v _ tied live)
+              (value-words m hm ws ok p r e a i open-at (room z f) (length (decode m ws .objects)) v live)
+            where
+              live : length (decode m ws .objects) < m .objects
+              live = rw (made-is m hm ws ok) at l
+
+    -- an alias
+    module _ (q : List ℕ) where
+      pub aliased-aim : (x : AmlError) → refused x ≡ lookUp (decode m ws) q → record { words = ws; said = refused x } ≡ left m ws (addAlias m (decode m ws) p q)
+      aliased-aim x d = kept m ws _ _ (addAlias m (decode m ws) p q) (alias-aim m (decode m ws) p q _ _ (sym d))
+
+      module _ (h : ℕ) (g : gives h ≡ lookUp (decode m ws) q) where
+        pub aliased-refused : (x : AmlError) → r ≡ Spot.Refused x → record { words = ws; said = refused x } ≡ left m ws (addAlias m (decode m ws) p q)
+        aliased-refused x d = kept m ws _ _ (addAlias m (decode m ws) p q) (alias-refused m (decode m ws) p q h _ _ (sym g) (spot-refused m hm ws ok p r e x d .1 h))
+
+        pub aliased-bound : (k : ℕ) → r ≡ Spot.Bound k → record { words = ws; said = refuses 17 0 } ≡ left m ws (addAlias m (decode m ws) p q)
+        aliased-bound k d = kept m ws 17 0 (addAlias m (decode m ws) p q) (alias-refused m (decode m ws) p q h 17 0 (sym g) (spot-bound m hm ws ok p r e k d .1 h))
+
+        module _ (z : 0 < m .bindings) (a i : ℕ) (d : r ≡ Spot.Free a i) where
+          opened : Open m hm ws ok p r e a i
+          opened = spot-open m hm ws ok p r e a i d
+
+          pub aliased-full : (getD ws (m .levels + (m .bindings - 1)) 0 ≡ 0 → ⊥) → record { words = ws; said = refuses 19 0 } ≡ left m ws (addAlias m (decode m ws) p q)
+          aliased-full f = kept m ws 19 0 (addAlias m (decode m ws) p q) (alias-refused m (decode m ws) p q h 19 0 (sym g) (bind-full m hm ws ok p r e a i opened (full z f) h))
+
+          pub aliased : getD ws (m .levels + (m .bindings - 1)) 0 ≡ 0 → (us : List ℕ) → us ≡ bindWords m ws a i (lastOf p * 4294967296 + h)
+              → record { words = us; said = gives h } ≡ left m ws (addAlias m (decode m ws) p q)
+          aliased f us u =
+              given m ws us _ h (addAlias m (decode m ws) p q) (alias-made m (decode m ws) p q h _ (sym g) (bind-room m hm ws ok p r e a i opened (room z f) h))
+              (u ∙ bound-words m hm ws ok p r e a i opened (room z f) h)
+
+-- the whole call of an alias
+module _ (m : Limits) (t : Tree) (cs ss ts : List Component) where
+  pub alias-path : (n k : ℕ) → resolved (m .components) cs ss ≡ refuses n k → aliasAt m t cs ss ts ≡ refuses n k
+  unfolding aliasAt
+  alias-path n k e = rw e
+
+  pub alias-target : (ps : List Component) (n k : ℕ) → resolved (m .components) cs ss ≡ gives ps → resolved (m .components) ts ss ≡ refuses n k → aliasAt m t cs ss ts ≡ refuses n k
+  unfolding aliasAt
+  alias-target ps n k e f = rw (e, f)
+
+  pub alias-both : (ps qs : List Component) → resolved (m .components) cs ss ≡ gives ps → resolved (m .components) ts ss ≡ gives qs → aliasAt m t cs ss ts ≡ addAlias m t (keys ps) (keys qs)
+  unfolding aliasAt
+  alias-both ps qs e f = rw (e, f)
+
+pub three-paths : (path scope target : AmlName) → pick (pathOk componentLimit path) (pick (pathOk componentLimit scope) (pathOk componentLimit target) false) false ≡ true
+    → (pathOk componentLimit path ≡ true) × (pathOk componentLimit scope ≡ true) × (pathOk componentLimit target ≡ true)
+three-paths path scope target h =
+    let a = both (pathOk componentLimit path) _ h in
+    let b = both (pathOk componentLimit scope) (pathOk componentLimit target) (a .1) in
+    (a .0, b .0, b .1)
+
+module _ (m : Limits) (ws : List ℕ) (path scope target : AmlName) where
+  pub alias-bad : wellFormed m ws ≡ false → refuses 24 0 ≡ addAliasCall m ws path scope target
+  unfolding addAliasCall
+  alias-bad h = rw (means-unformed m ws h)
+
+  module _ (ok : wellFormed m ws ≡ true) where
+    pub alias-given : (pathOk (m .components) path ≡ true) × (pathOk (m .components) scope ≡ true) × (pathOk (m .components) target ≡ true)
+        → aliasAt m (decode m ws) (pathOf path) (pathOf scope) (pathOf target) ≡ addAliasCall m ws path scope target
+    unfolding addAliasCall pathIn
+    alias-given h = rw (means-formed m ws ok, h .0, h .1, h .2)
+
+    pub alias-paths : pick (pathOk (m .components) path) (pick (pathOk (m .components) scope) (pathOk (m .components) target) false) false ≡ false → refuses 26 0 ≡ addAliasCall m ws path scope target
+    unfolding addAliasCall pathIn
+    alias-paths h = rw (means-formed m ws ok) (go (pathOk (m .components) path) (pathOk (m .components) scope) (pathOk (m .components) target) h)
+      where
+        go : (a b c : Bool) → pick a (pick b c false) false ≡ false
+            → refuses 26 0 ≡ andThen (pick a (gives (pathOf path)) (refuses 26 0)) (λ cs. andThen (pick b (gives (pathOf scope)) (refuses 26 0)) (λ ss.
+            andThen (pick c (gives (pathOf target)) (refuses 26 0)) (λ ts. aliasAt m (decode m ws) cs ss ts)))
+        go true true true h = clash h
+        go true true false h = refl
+        go true false c h = refl
+        go false b c h = refl

@@ -1,0 +1,109 @@
+-- 24, what the path is refused with, and then the edit of the tree.
+use mathlib.Core.Path.{_≡_, ap, ap₂, sym, _∙_}
+use mathlib.Core.List.{List}
+use Prim.Native.Nat.{ℕ, _<_}
+use lib.ListN.{length}
+use lib.Seq.{length-take-le}
+use Rattle.name_object.specs.Component.{componentLimit}
+use Rattle.namespace.specs.Limits.{limits}
+use Rattle.namespace.specs.Memory.{decode, left}
+use Rattle.namespace.specs.Edits.{addLevel}
+use Rattle.namespace.specs.Calls.{settledKeys, done, addLevelCall, typeNumber}
+use Rattle.namespace.specs.declared.LevelType.{LevelType}
+use Rattle.namespace.specs.declared.LevelType.the-variants.{Scope, Device, Processor, PowerResource, ThermalZone, MethodLocals}
+use Rattle.namespace.proofs.Keys.{settled-kept, settled-count, kept-keyed, settled-done, settled-refused}
+use Rattle.namespace.proofs.Calls.{call-bad, call-given, call-refused, left-kept}
+use borrow.Author.Needs.{needs}
+use native.Mathlib.Omega.{arith}
+use Rattle.namespace.proofs.add_level.Statement.{statement}
+use Rattle.namespace.proofs.add_level.Tie as tie
+
+type-low : (t : LevelType) → typeNumber t < 6
+type-low Scope = omega arith
+type-low Device = omega arith
+type-low Processor = omega arith
+type-low PowerResource = omega arith
+type-low ThermalZone = omega arith
+type-low MethodLocals = omega arith
+
+well-formed-requires : tie.Need-well-formed-requires
+well-formed-requires c κs = search needs
+
+settled-requires : tie.Need-settled-requires
+settled-requires c κs = search needs
+
+enum-known-said : tie.Need-enum-known-said
+enum-known-said c = search needs
+
+enum-told : tie.Need-enum-told
+enum-told c = search needs
+
+keys-of-requires : tie.Need-keys-of-requires
+keys-of-requires c κs =
+    (settled-done (c .before .before .before .before .before .before .before .before .args .path) (c .before .before .before .settled .result) (c .before .before .before .settled .ensures) (c .before .enum-told .given .1)) .0
+
+array-share-prefix-keys : tie.Need-array-share-prefix-keys
+array-share-prefix-keys c =
+    let n = settled-count (c .before .before .before .before .before .settled .result .name) ((settled-done (c .before .before .before .before .before .before .before .before .before .before .args .path) (c .before .before .before .before .before .settled .result) (c .before .before .before .before .before .settled .ensures) (c .before .before .before .enum-told .given .1)) .0) in
+    let len : length (c .before .keys-of .result) ≡ 32 = search needs in
+    omega arith
+
+slice-aggregate-add-level : tie.Need-slice-aggregate-add-level
+slice-aggregate-add-level c =
+    let n = settled-count (c .before .before .before .before .before .before .settled .result .name) ((settled-done (c .before .before .before .before .before .before .before .before .before .before .before .args .path) (c .before .before .before .before .before .before .settled .result) (c .before .before .before .before .before .before .settled .ensures) (c .before .before .before .before .enum-told .given .1)) .0) in
+    let len : length (c .before .before .keys-of .result) ≡ 32 = search needs in
+    sym (length-take-le (c .before .before .before .before .before .before .settled .result .name .count) (c .before .before .keys-of .result) (omega arith))
+
+type-number-requires : tie.Need-type-number-requires
+type-number-requires c κs = search needs
+
+add-level-requires : tie.Need-add-level-requires
+add-level-requires c κs =
+    (sym (c .before .before .before .before .before .before .before .before .before .well-formed .ensures) ∙ c .before .before .before .before .before .before .before .before .if1 .taken, rw (c .before .before .before .keys-of .ensures) (kept-keyed componentLimit _ (settled-kept (c .before .before .before .before .before .before .before .settled .result .name) ((settled-done (c .before .before .before .before .before .before .before .before .before .before .before .before .args .path) (c .before .before .before .before .before .before .before .settled .result) (c .before .before .before .before .before .before .before .settled .ensures) (c .before .before .before .before .before .enum-told .given .1)) .0)) (omega arith)), rw (c .type-number .ensures) (type-low (c .before .before .before .before .before .before .before .before .before .before .before .before .args .typ)))
+
+same-length : tie.Need-same-length
+same-length c = search needs
+
+returns : tie.Need-returns
+unfolding addLevelCall
+returns c =
+    let ws = c .before .before .before .before .before .before .before .before .args .table .now in
+    left-kept limits ws _ _ _ (call-refused limits ws (λ t p. done (addLevel limits t p (typeNumber (c .before .before .before .before .before .before .before .before .args .typ)))) (settledKeys componentLimit (c .before .before .before .before .before .before .before .before .args .path)) (sym (c .before .before .before .before .before .well-formed .ensures) ∙ c .before .before .before .before .if1 .taken) (c .before .said .given .0 .0) (settled-refused (c .before .before .before .before .before .before .before .before .args .path) (c .before .before .before .settled .result) (c .before .before .before .settled .ensures) (c .before .said .given .0 .0) (c .before .said .given .1)))
+
+same-length-2 : tie.Need-same-length-2
+same-length-2 c = search needs
+
+returns-2 : tie.Need-returns-2
+unfolding addLevelCall
+returns-2 c =
+    let ws = c .before .before .before .before .before .before .before .before .before .before .before .before .before .before .before .args .table .now in
+    c .before .before .add-level .ensures ∙ ap₂ (λ (p : List ℕ) (n : ℕ). left limits ws (done (addLevel limits (decode limits ws) p n))) (c .before .before .before .before .before .before .keys-of .ensures) (c .before .before .before .type-number .ensures) ∙ ap (left limits ws) (call-given limits ws (λ t p. done (addLevel limits t p (typeNumber (c .before .before .before .before .before .before .before .before .before .before .before .before .before .before .before .args .typ)))) (settledKeys componentLimit (c .before .before .before .before .before .before .before .before .before .before .before .before .before .before .before .args .path)) (sym (c .before .before .before .before .before .before .before .before .before .before .before .before .well-formed .ensures) ∙ c .before .before .before .before .before .before .before .before .before .before .before .if1 .taken) _ ((settled-done (c .before .before .before .before .before .before .before .before .before .before .before .before .before .before .before .args .path) (c .before .before .before .before .before .before .before .before .before .before .settled .result) (c .before .before .before .before .before .before .before .before .before .before .settled .ensures) (c .before .before .before .before .before .before .before .before .enum-told .given .1)) .1))
+
+same-length-3 : tie.Need-same-length-3
+same-length-3 c = search needs
+
+returns-3 : tie.Need-returns-3
+unfolding addLevelCall
+returns-3 c =
+    let ws = c .before .before .before .before .args .table .now in
+    left-kept limits ws _ _ _ (call-bad limits ws (λ t p. done (addLevel limits t p (typeNumber (c .before .before .before .before .args .typ)))) (settledKeys componentLimit (c .before .before .before .before .args .path)) (sym (c .before .well-formed .ensures) ∙ c .if1 .left))
+
+pub add-level-spec : {M : Type 1} → statement M
+add-level-spec =
+    tie.close
+    (tie.spec
+    well-formed-requires
+    settled-requires
+    enum-known-said
+    enum-told
+    keys-of-requires
+    array-share-prefix-keys
+    slice-aggregate-add-level
+    type-number-requires
+    add-level-requires
+    same-length
+    returns
+    same-length-2
+    returns-2
+    same-length-3
+    returns-3)

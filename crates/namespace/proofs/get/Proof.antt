@@ -1,0 +1,30 @@
+-- 24, then the object.
+use mathlib.Core.Path.{sym, _∙_}
+use Rattle.namespace.specs.Limits.{limits}
+use Rattle.namespace.specs.Edits.{valueOf}
+use Rattle.namespace.specs.Calls.{getCall}
+use Rattle.namespace.proofs.Calls.{mean-bad, mean-given}
+use borrow.Author.Needs.{needs}
+use Rattle.namespace.proofs.get.Statement.{statement}
+use Rattle.namespace.proofs.get.Tie as tie
+
+well-formed-requires : tie.Need-well-formed-requires
+well-formed-requires c κs = search needs
+
+read-requires : tie.Need-read-requires
+read-requires c κs = sym (c .before .well-formed .ensures) ∙ c .if1 .taken
+
+returns : tie.Need-returns
+unfolding getCall
+returns c =
+    let ws = c .before .before .before .before .args .table .now in
+    c .read .ensures ∙ mean-given limits ws (λ t. valueOf t (c .before .before .before .before .args .handle .0)) (sym (c .before .before .well-formed .ensures) ∙ c .before .if1 .taken)
+
+returns-2 : tie.Need-returns-2
+unfolding getCall
+returns-2 c =
+    let ws = c .before .before .before .args .table .now in
+    mean-bad limits ws (λ t. valueOf t (c .before .before .before .args .handle .0)) (sym (c .before .well-formed .ensures) ∙ c .if1 .left)
+
+pub get-spec : {M : Type 1} → statement M
+get-spec = tie.close (tie.spec well-formed-requires read-requires returns returns-2)

@@ -1,0 +1,48 @@
+-- From the handle that the path gives.
+use mathlib.Core.Path.{ap, sym, _∙_}
+use Rattle.name_object.specs.Component.{componentLimit}
+use Rattle.namespace.specs.Limits.{limits}
+use Rattle.namespace.specs.Edits.{lookUp, valueOf}
+use Rattle.namespace.specs.Calls.{settledKeys, handleSaid, getHandleCall, getByPathCall}
+use Rattle.namespace.proofs.Calls.{call-formed, then-given, then-refused}
+use borrow.Author.Needs.{needs}
+use Rattle.namespace.proofs.get_by_path.Statement.{statement}
+use Rattle.namespace.proofs.get_by_path.Tie as tie
+
+get-handle-requires : tie.Need-get-handle-requires
+get-handle-requires c κs = search needs
+
+enum-known-found : tie.Need-enum-known-found
+enum-known-found c = search needs
+
+read-requires : tie.Need-read-requires
+unfolding getHandleCall
+read-requires c κs =
+    let ws = c .before .before .before .before .before .args .table .now in
+    call-formed limits ws (settledKeys componentLimit (c .before .before .before .before .before .args .path)) (λ t p. lookUp t p) (λ t h. valueOf t h) (c .before .found .given .0 .0 .0) (sym (ap handleSaid (c .before .found .given .1)) ∙ c .before .before .before .get-handle .ensures)
+
+enum-known-found-2 : tie.Need-enum-known-found-2
+enum-known-found-2 c = search needs
+
+returns : tie.Need-returns
+unfolding getHandleCall getByPathCall
+returns c =
+    let ws = c .before .before .before .before .before .before .args .table .now in
+    c .read .ensures ∙ then-given limits ws (settledKeys componentLimit (c .before .before .before .before .before .before .args .path)) (λ t p. lookUp t p) (λ t h. valueOf t h) (c .before .before .found .given .0 .0 .0) (sym (ap handleSaid (c .before .before .found .given .1)) ∙ c .before .before .before .before .get-handle .ensures)
+
+returns-2 : tie.Need-returns-2
+unfolding getHandleCall getByPathCall
+returns-2 c =
+    let ws = c .before .before .before .before .before .args .table .now in
+    then-refused limits ws (settledKeys componentLimit (c .before .before .before .before .before .args .path)) (λ t p. lookUp t p) (λ t h. valueOf t h) _ _ (sym (ap handleSaid (c .before .found2 .given .1)) ∙ c .before .before .before .get-handle .ensures)
+
+pub get-by-path-spec : {M : Type 1} → statement M
+get-by-path-spec =
+    tie.close
+    (tie.spec
+    get-handle-requires
+    enum-known-found
+    read-requires
+    enum-known-found-2
+    returns
+    returns-2)

@@ -1,0 +1,83 @@
+-- 24, what the path is refused with, and then the work on the tree.
+use mathlib.Core.Path.{_≡_, ap, sym, _∙_}
+use mathlib.Core.List.{List}
+use Prim.Native.Nat.{ℕ}
+use lib.ListN.{length}
+use lib.Seq.{length-take-le}
+use Rattle.name_object.specs.Component.{componentLimit}
+use Rattle.namespace.specs.Limits.{limits}
+use Rattle.namespace.specs.Memory.{decode}
+use Rattle.namespace.specs.Edits.{lookUp}
+use Rattle.namespace.specs.Calls.{settledKeys, getHandleCall}
+use Rattle.namespace.proofs.Keys.{settled-kept, settled-count, kept-keyed, settled-done, settled-refused}
+use Rattle.namespace.proofs.Calls.{call-bad, call-given, call-refused}
+use borrow.Author.Needs.{needs}
+use native.Mathlib.Omega.{arith}
+use Rattle.namespace.proofs.get_handle.Statement.{statement}
+use Rattle.namespace.proofs.get_handle.Tie as tie
+
+well-formed-requires : tie.Need-well-formed-requires
+well-formed-requires c κs = search needs
+
+settled-requires : tie.Need-settled-requires
+settled-requires c κs = search needs
+
+enum-known-said : tie.Need-enum-known-said
+enum-known-said c = search needs
+
+enum-told : tie.Need-enum-told
+enum-told c = search needs
+
+keys-of-requires : tie.Need-keys-of-requires
+keys-of-requires c κs =
+    (settled-done (c .before .before .before .before .before .before .before .args .path) (c .before .before .before .settled .result) (c .before .before .before .settled .ensures) (c .before .enum-told .given .1)) .0
+
+array-share-prefix-keys : tie.Need-array-share-prefix-keys
+array-share-prefix-keys c =
+    let n = settled-count (c .before .before .before .before .settled .result .name) ((settled-done (c .before .before .before .before .before .before .before .before .args .path) (c .before .before .before .before .settled .result) (c .before .before .before .before .settled .ensures) (c .before .before .enum-told .given .1)) .0) in
+    let len : length (c .keys-of .result) ≡ 32 = search needs in
+    omega arith
+
+slice-aggregate-look-up : tie.Need-slice-aggregate-look-up
+slice-aggregate-look-up c =
+    let n = settled-count (c .before .before .before .before .before .settled .result .name) ((settled-done (c .before .before .before .before .before .before .before .before .before .args .path) (c .before .before .before .before .before .settled .result) (c .before .before .before .before .before .settled .ensures) (c .before .before .before .enum-told .given .1)) .0) in
+    let len : length (c .before .keys-of .result) ≡ 32 = search needs in
+    sym (length-take-le (c .before .before .before .before .before .settled .result .name .count) (c .before .keys-of .result) (omega arith))
+
+look-up-requires : tie.Need-look-up-requires
+look-up-requires c κs =
+    (sym (c .before .before .before .before .before .before .before .well-formed .ensures) ∙ c .before .before .before .before .before .before .if1 .taken, rw (c .before .keys-of .ensures) (kept-keyed componentLimit _ (settled-kept (c .before .before .before .before .before .settled .result .name) ((settled-done (c .before .before .before .before .before .before .before .before .before .args .path) (c .before .before .before .before .before .settled .result) (c .before .before .before .before .before .settled .ensures) (c .before .before .before .enum-told .given .1)) .0)) (omega arith)))
+
+returns : tie.Need-returns
+unfolding getHandleCall
+returns c =
+    let ws = c .before .before .before .before .before .before .before .args .table .now in
+    (call-refused limits ws (λ t p. lookUp t p) (settledKeys componentLimit (c .before .before .before .before .before .before .before .args .path)) (sym (c .before .before .before .before .before .well-formed .ensures) ∙ c .before .before .before .before .if1 .taken) (c .before .said .given .0 .0) (settled-refused (c .before .before .before .before .before .before .before .args .path) (c .before .before .before .settled .result) (c .before .before .before .settled .ensures) (c .before .said .given .0 .0) (c .before .said .given .1)))
+
+returns-2 : tie.Need-returns-2
+unfolding getHandleCall
+returns-2 c =
+    let ws = c .before .before .before .before .before .before .before .before .before .before .args .table .now in
+    c .look-up .ensures ∙ ap (λ (p : List ℕ). lookUp (decode limits ws) p) (c .before .before .keys-of .ensures) ∙ call-given limits ws (λ t p. lookUp t p) (settledKeys componentLimit (c .before .before .before .before .before .before .before .before .before .before .args .path)) (sym (c .before .before .before .before .before .before .before .before .well-formed .ensures) ∙ c .before .before .before .before .before .before .before .if1 .taken) _ ((settled-done (c .before .before .before .before .before .before .before .before .before .before .args .path) (c .before .before .before .before .before .before .settled .result) (c .before .before .before .before .before .before .settled .ensures) (c .before .before .before .before .enum-told .given .1)) .1)
+
+returns-3 : tie.Need-returns-3
+unfolding getHandleCall
+returns-3 c =
+    let ws = c .before .before .before .args .table .now in
+    (call-bad limits ws (λ t p. lookUp t p) (settledKeys componentLimit (c .before .before .before .args .path)) (sym (c .before .well-formed .ensures) ∙ c .if1 .left))
+
+pub get-handle-spec : {M : Type 1} → statement M
+get-handle-spec =
+    tie.close
+    (tie.spec
+    well-formed-requires
+    settled-requires
+    enum-known-said
+    enum-told
+    keys-of-requires
+    array-share-prefix-keys
+    slice-aggregate-look-up
+    look-up-requires
+    returns
+    returns-2
+    returns-3)

@@ -1,0 +1,146 @@
+-- One law for each answer, by what the pass told.
+use mathlib.Core.Path.{sym}
+use Prim.Native.Nat.{_-_}
+use lib.ListN.{length}
+use Rattle.namespace.specs.Limits.{limits}
+use Rattle.namespace.proofs.Objects.{long}
+use Rattle.namespace.proofs.LevelCalls.{length-ls, added-root, added-here, added-missing, added-place, added-new, added-full}
+use borrow.Author.Needs.{needs}
+use native.Mathlib.Omega.{arith}
+use Rattle.namespace.proofs.inner.add_level.Statement.{statement}
+use Rattle.namespace.proofs.inner.add_level.Tie as tie
+
+returns : tie.Need-returns
+returns c =
+    let ws = c .before .before .before .args .table .now in
+    added-root limits (omega arith) ws (c .before .before .before .pre .0) (c .before .before .before .args .path .now) (c .before .before .before .args .typ) (c .if1 .taken)
+
+slice-reshare-prefix-seek : tie.Need-slice-reshare-prefix-seek
+slice-reshare-prefix-seek c =
+    let ws = c .before .before .before .args .table .now in
+    omega (arith, long limits (omega arith) ws (c .before .before .before .pre .0))
+
+slice-aggregate-seek : tie.Need-slice-aggregate-seek
+slice-aggregate-seek c =
+    let ws = c .before .before .before .before .args .table .now in
+    sym (length-ls limits (omega arith) ws (c .before .before .before .before .pre .0))
+
+seek-requires : tie.Need-seek-requires
+seek-requires c κs =
+    let ws = c .before .before .before .before .args .table .now in
+    omega (arith, length-ls limits (omega arith) ws (c .before .before .before .before .pre .0))
+
+enum-told : tie.Need-enum-told
+enum-told c = search needs
+
+enum-known-found : tie.Need-enum-known-found
+enum-known-found c = search needs
+
+enum-known-found-2 : tie.Need-enum-known-found-2
+enum-known-found-2 c = search needs
+
+slice-read-if2 : tie.Need-slice-read-if2
+slice-read-if2 c =
+    let ws = c .before .before .before .before .before .before .before .before .before .args .table .now in
+    omega (arith, long limits (omega arith) ws (c .before .before .before .before .before .before .before .before .before .pre .0))
+
+mul-w : tie.Need-mul-w
+mul-w c = search needs
+
+mul-w-2 : tie.Need-mul-w-2
+mul-w-2 c = search needs
+
+add-w : tie.Need-add-w
+add-w c = search needs
+
+sub-w : tie.Need-sub-w
+sub-w c = search needs
+
+mul-w-3 : tie.Need-mul-w-3
+mul-w-3 c = search needs
+
+shared-slice-read-w : tie.Need-shared-slice-read-w
+shared-slice-read-w c = search needs
+
+add-w-2 : tie.Need-add-w-2
+add-w-2 c =
+    let p = c .before .before .before .before .before .before .before .before .before .before .before .args .path .now in
+    omega (arith, c .before .before .before .before .before .before .before .before .before .before .before .pre .1 .short, c .before .before .before .before .before .before .before .before .before .before .before .pre .1 .low (length p - 1))
+
+slice-relend-prefix-make-room : tie.Need-slice-relend-prefix-make-room
+slice-relend-prefix-make-room c =
+    let ws = c .before .before .before .before .before .before .before .before .before .before .before .args .table .now in
+    omega (arith, long limits (omega arith) ws (c .before .before .before .before .before .before .before .before .before .before .before .pre .0))
+
+slice-aggregate-make-room : tie.Need-slice-aggregate-make-room
+slice-aggregate-make-room c =
+    let ws = c .before .before .before .before .before .before .before .before .before .before .before .before .args .table .now in
+    sym (length-ls limits (omega arith) ws (c .before .before .before .before .before .before .before .before .before .before .before .before .pre .0))
+
+make-room-requires : tie.Need-make-room-requires
+make-room-requires c κs =
+    let ws = c .before .before .before .before .before .before .before .before .before .before .before .before .args .table .now in
+    added-place limits (omega arith) ws (c .before .before .before .before .before .before .before .before .before .before .before .before .pre .0) (c .before .before .before .before .before .before .before .before .before .before .before .before .args .path .now) (c .before .before .before .before .before .before .before .before .before .before .before .before .args .typ) (omega arith) (c .before .before .before .before .before .before .before .seek .result) (c .before .before .before .before .before .before .before .seek .ensures) (omega arith) (c .before .before .before .before .before .found2 .given .0 .0) (c .before .before .before .before .before .found2 .given .1)
+
+same-length : tie.Need-same-length
+same-length c = search needs
+
+returns-2 : tie.Need-returns-2
+returns-2 c =
+    let ws = c .before .before .before .before .before .before .before .args .table .now in
+    added-here limits (omega arith) ws (c .before .before .before .before .before .before .before .pre .0) (c .before .before .before .before .before .before .before .args .path .now) (c .before .before .before .before .before .before .before .args .typ) (omega arith) (c .before .before .seek .result) (c .before .before .seek .ensures) _ _ (c .enum-told .given .1)
+
+same-length-2 : tie.Need-same-length-2
+same-length-2 c = search needs
+
+returns-3 : tie.Need-returns-3
+returns-3 c =
+    let ws = c .before .before .before .before .before .before .before .before .args .table .now in
+    added-missing limits (omega arith) ws (c .before .before .before .before .before .before .before .before .pre .0) (c .before .before .before .before .before .before .before .before .args .path .now) (c .before .before .before .before .before .before .before .before .args .typ) (omega arith) (c .before .before .before .seek .result) (c .before .before .before .seek .ensures) (c .before .found .given .0 .0) (c .before .found .given .1)
+
+same-length-3 : tie.Need-same-length-3
+same-length-3 c = search needs
+
+returns-4 : tie.Need-returns-4
+returns-4 c =
+    let ws = c .before .before .before .before .before .before .before .before .before .before .before .before .before .before .before .args .table .now in
+    added-new limits (omega arith) ws (c .before .before .before .before .before .before .before .before .before .before .before .before .before .before .before .pre .0) (c .before .before .before .before .before .before .before .before .before .before .before .before .before .before .before .args .path .now) (c .before .before .before .before .before .before .before .before .before .before .before .before .before .before .before .args .typ) (omega arith) (c .before .before .before .before .before .before .before .before .before .before .seek .result) (c .before .before .before .before .before .before .before .before .before .before .seek .ensures) (omega arith) (c .before .before .before .before .before .before .before .before .found2 .given .0 .0) (c .before .before .before .before .before .before .before .before .found2 .given .1) (c .before .before .before .before .before .if2 .taken) _ (c .before .before .make-room .ensures)
+
+same-length-4 : tie.Need-same-length-4
+same-length-4 c = search needs
+
+returns-5 : tie.Need-returns-5
+returns-5 c =
+    let ws = c .before .before .before .before .before .before .before .before .before .before .args .table .now in
+    added-full limits (omega arith) ws (c .before .before .before .before .before .before .before .before .before .before .pre .0) (c .before .before .before .before .before .before .before .before .before .before .args .path .now) (c .before .before .before .before .before .before .before .before .before .before .args .typ) (omega arith) (c .before .before .before .before .before .seek .result) (c .before .before .before .before .before .seek .ensures) (omega arith) (c .before .before .before .found2 .given .0 .0) (c .before .before .before .found2 .given .1) (c .if2 .left)
+
+pub add-level-spec : {M : Type 1} → statement M
+add-level-spec =
+    tie.close
+    (tie.spec
+    returns
+    slice-reshare-prefix-seek
+    slice-aggregate-seek
+    seek-requires
+    enum-told
+    enum-known-found
+    enum-known-found-2
+    slice-read-if2
+    mul-w
+    mul-w-2
+    add-w
+    sub-w
+    mul-w-3
+    shared-slice-read-w
+    add-w-2
+    slice-relend-prefix-make-room
+    slice-aggregate-make-room
+    make-room-requires
+    same-length
+    returns-2
+    same-length-2
+    returns-3
+    same-length-3
+    returns-4
+    same-length-4
+    returns-5)

@@ -1,0 +1,158 @@
+-- One law for each answer, by where the last segment is.
+use mathlib.Core.Path.{ap, _∙_}
+use Prim.Native.Nat.{_+_, _*_, _-_}
+use lib.ListN.{length, getD, length-set}
+use Rattle.namespace.specs.Limits.{limits}
+use Rattle.namespace.proofs.Objects.{long}
+use Rattle.namespace.proofs.BindCalls.{spot-open}
+use Rattle.namespace.proofs.BindWords.{bind-place, word-low, bind-length}
+use Rattle.namespace.proofs.ValueCalls.{valued-refused, valued-bound, valued-full, valued-none, valued}
+use borrow.Author.Needs.{needs}
+use native.Mathlib.Omega.{arith}
+use Rattle.namespace.proofs.inner.add_value.Statement.{statement}
+use Rattle.namespace.proofs.inner.add_value.Tie as tie
+
+find-spot-requires : tie.Need-find-spot-requires
+find-spot-requires c κs = search needs
+
+enum-known-found : tie.Need-enum-known-found
+enum-known-found c = search needs
+
+enum-told : tie.Need-enum-told
+enum-told c = search needs
+
+enum-known-found-2 : tie.Need-enum-known-found-2
+enum-known-found-2 c = search needs
+
+slice-read-if1 : tie.Need-slice-read-if1
+slice-read-if1 c =
+    let ws = c .before .before .before .before .before .before .before .before .args .table .now in
+    omega (arith, long limits (omega arith) ws (c .before .before .before .before .before .before .before .before .pre .0))
+
+same-length : tie.Need-same-length
+same-length c = search needs
+
+returns : tie.Need-returns
+returns c =
+    let ws = c .before .before .before .before .before .before .before .before .before .args .table .now in
+    valued-full limits (omega arith) ws (c .before .before .before .before .before .before .before .before .before .pre .0) (c .before .before .before .before .before .before .before .before .before .args .path .now) (c .before .before .before .before .before .find-spot .result) (c .before .before .before .before .before .find-spot .ensures) (c .before .before .before .before .before .before .before .before .before .args .value) (omega arith) (c .before .before .before .found2 .given .0 .0) (c .before .before .before .found2 .given .0 .1 .0) (c .before .before .before .found2 .given .1) (c .if1 .taken)
+
+slice-read-made : tie.Need-slice-read-made
+slice-read-made c =
+    let ws = c .before .before .before .before .before .before .before .before .before .before .args .table .now in
+    omega (arith, long limits (omega arith) ws (c .before .before .before .before .before .before .before .before .before .before .pre .0))
+
+same-length-2 : tie.Need-same-length-2
+same-length-2 c = search needs
+
+returns-2 : tie.Need-returns-2
+returns-2 c =
+    let ws = c .before .before .before .before .before .before .before .before .before .before .before .args .table .now in
+    valued-none limits (omega arith) ws (c .before .before .before .before .before .before .before .before .before .before .before .pre .0) (c .before .before .before .before .before .before .before .before .before .before .before .args .path .now) (c .before .before .before .before .before .before .before .find-spot .result) (c .before .before .before .before .before .before .before .find-spot .ensures) (c .before .before .before .before .before .before .before .before .before .before .before .args .value) (omega arith) (c .before .before .before .before .before .found2 .given .0 .0) (c .before .before .before .before .before .found2 .given .0 .1 .0) (c .before .before .before .before .before .found2 .given .1) (c .before .before .if1 .left) (c .if2 .taken)
+
+sub-bind : tie.Need-sub-bind
+sub-bind c =
+    let ws = c .before .before .before .before .before .before .before .before .before .before .before .before .args .table .now in
+    omega (arith, (spot-open limits (omega arith) ws (c .before .before .before .before .before .before .before .before .before .before .before .before .pre .0) (c .before .before .before .before .before .before .before .before .before .before .before .before .args .path .now) (c .before .before .before .before .before .before .before .before .find-spot .result) (c .before .before .before .before .before .before .before .before .find-spot .ensures) (c .before .before .before .before .before .before .found2 .given .0 .0) (c .before .before .before .before .before .before .found2 .given .0 .1 .0) (c .before .before .before .before .before .before .found2 .given .1)) .more, c .before .before .before .before .before .before .before .before .before .before .before .before .pre .1 .short)
+
+mul-bind : tie.Need-mul-bind
+mul-bind c =
+    let ws = c .before .before .before .before .before .before .before .before .before .before .before .before .args .table .now in
+    omega (arith, (spot-open limits (omega arith) ws (c .before .before .before .before .before .before .before .before .before .before .before .before .pre .0) (c .before .before .before .before .before .before .before .before .before .before .before .before .args .path .now) (c .before .before .before .before .before .before .before .before .find-spot .result) (c .before .before .before .before .before .before .before .before .find-spot .ensures) (c .before .before .before .before .before .before .found2 .given .0 .0) (c .before .before .before .before .before .before .found2 .given .0 .1 .0) (c .before .before .before .before .before .before .found2 .given .1)) .more, c .before .before .before .before .before .before .before .before .before .before .before .before .pre .1 .short)
+
+shared-slice-read-bind : tie.Need-shared-slice-read-bind
+shared-slice-read-bind c =
+    let ws = c .before .before .before .before .before .before .before .before .before .before .before .before .before .args .table .now in
+    omega (arith, (spot-open limits (omega arith) ws (c .before .before .before .before .before .before .before .before .before .before .before .before .before .pre .0) (c .before .before .before .before .before .before .before .before .before .before .before .before .before .args .path .now) (c .before .before .before .before .before .before .before .before .before .find-spot .result) (c .before .before .before .before .before .before .before .before .before .find-spot .ensures) (c .before .before .before .before .before .before .before .found2 .given .0 .0) (c .before .before .before .before .before .before .before .found2 .given .0 .1 .0) (c .before .before .before .before .before .before .before .found2 .given .1)) .more, c .before .before .before .before .before .before .before .before .before .before .before .before .before .pre .1 .short)
+
+mul-bind-2 : tie.Need-mul-bind-2
+mul-bind-2 c =
+    omega (arith, c .before .before .before .before .before .before .before .before .before .before .before .before .before .pre .1 .low (length (c .before .before .before .before .before .before .before .before .before .before .before .before .before .args .path .now) - 1))
+
+add-bind : tie.Need-add-bind
+add-bind c =
+    omega (arith, c .before .before .before .before .before .before .before .before .before .before .before .before .before .pre .1 .low (length (c .before .before .before .before .before .before .before .before .before .before .before .before .before .args .path .now) - 1), c .before .before .if2 .left)
+
+bind-requires : tie.Need-bind-requires
+bind-requires c κs =
+    let ws = c .before .before .before .before .before .before .before .before .before .before .before .before .before .args .table .now in
+    (long limits (omega arith) ws (c .before .before .before .before .before .before .before .before .before .before .before .before .before .pre .0), bind-place limits (omega arith) ws (c .before .before .before .before .before .before .before .before .before .before .before .before .before .pre .0) (c .before .before .before .before .before .before .before .before .before .before .before .before .before .args .path .now) (c .before .before .before .before .before .before .before .before .before .find-spot .result) (c .before .before .before .before .before .before .before .before .before .find-spot .ensures) (c .before .before .before .before .before .before .before .found2 .given .0 .0) (c .before .before .before .before .before .before .before .found2 .given .0 .1 .0) (spot-open limits (omega arith) ws (c .before .before .before .before .before .before .before .before .before .before .before .before .before .pre .0) (c .before .before .before .before .before .before .before .before .before .before .before .before .before .args .path .now) (c .before .before .before .before .before .before .before .before .before .find-spot .result) (c .before .before .before .before .before .before .before .before .before .find-spot .ensures) (c .before .before .before .before .before .before .before .found2 .given .0 .0) (c .before .before .before .before .before .before .before .found2 .given .0 .1 .0) (c .before .before .before .before .before .before .before .found2 .given .1)) .0, bind-place limits (omega arith) ws (c .before .before .before .before .before .before .before .before .before .before .before .before .before .pre .0) (c .before .before .before .before .before .before .before .before .before .before .before .before .before .args .path .now) (c .before .before .before .before .before .before .before .before .before .find-spot .result) (c .before .before .before .before .before .before .before .before .before .find-spot .ensures) (c .before .before .before .before .before .before .before .found2 .given .0 .0) (c .before .before .before .before .before .before .before .found2 .given .0 .1 .0) (spot-open limits (omega arith) ws (c .before .before .before .before .before .before .before .before .before .before .before .before .before .pre .0) (c .before .before .before .before .before .before .before .before .before .before .before .before .before .args .path .now) (c .before .before .before .before .before .before .before .before .before .find-spot .result) (c .before .before .before .before .before .before .before .before .before .find-spot .ensures) (c .before .before .before .before .before .before .before .found2 .given .0 .0) (c .before .before .before .before .before .before .before .found2 .given .0 .1 .0) (c .before .before .before .before .before .before .before .found2 .given .1)) .1, word-low limits (omega arith) ws (c .before .before .before .before .before .before .before .before .before .before .before .before .before .pre .0) (c .before .before .before .before .before .before .before .before .before .before .before .before .before .args .path .now) (c .before .before .before .before .before .before .before .before .before .find-spot .result) (c .before .before .before .before .before .before .before .before .before .find-spot .ensures) (c .before .before .before .before .before .before .before .found2 .given .0 .0) (c .before .before .before .before .before .before .before .found2 .given .0 .1 .0) (spot-open limits (omega arith) ws (c .before .before .before .before .before .before .before .before .before .before .before .before .before .pre .0) (c .before .before .before .before .before .before .before .before .before .before .before .before .before .args .path .now) (c .before .before .before .before .before .before .before .before .before .find-spot .result) (c .before .before .before .before .before .before .before .before .before .find-spot .ensures) (c .before .before .before .before .before .before .before .found2 .given .0 .0) (c .before .before .before .before .before .before .before .found2 .given .0 .1 .0) (c .before .before .before .before .before .before .before .found2 .given .1)) (omega arith))
+
+add-table : tie.Need-add-table
+add-table c = omega (arith, c .before .before .before .before .before .if2 .left)
+
+mul-table : tie.Need-mul-table
+mul-table c = omega (arith, c .before .before .before .before .before .if2 .left)
+
+slice-write-table : tie.Need-slice-write-table
+slice-write-table c =
+    let ws = c .before .before .before .before .before .before .before .before .before .before .before .before .before .before .before .before .args .table .now in
+    omega (arith, c .before .before .before .before .before .if2 .left, ap length (c .before .before .bind .ensures) ∙ bind-length limits ws (c .before .before .before .before .before .before .before .before .before .before .found2 .given .0 .0) (c .before .before .before .before .before .before .before .before .before .before .found2 .given .0 .1 .0) (getD (c .before .before .before .before .before .before .before .before .before .before .before .before .before .before .before .before .args .path .now) (length (c .before .before .before .before .before .before .before .before .before .before .before .before .before .before .before .before .args .path .now) - 1) 0 * 4294967296 + getD ws 640 0), long limits (omega arith) ws (c .before .before .before .before .before .before .before .before .before .before .before .before .before .before .before .before .pre .0))
+
+add-table-2 : tie.Need-add-table-2
+add-table-2 c = omega (arith, c .before .before .before .before .before .if2 .left)
+
+slice-write-table-2 : tie.Need-slice-write-table-2
+slice-write-table-2 c =
+    let ws = c .before .before .before .before .before .before .before .before .before .before .before .before .before .before .before .before .args .table .now in
+    let n = ap length (c .before .before .bind .ensures) ∙ bind-length limits ws (c .before .before .before .before .before .before .before .before .before .before .found2 .given .0 .0) (c .before .before .before .before .before .before .before .before .before .before .found2 .given .0 .1 .0) (getD (c .before .before .before .before .before .before .before .before .before .before .before .before .before .before .before .before .args .path .now) (length (c .before .before .before .before .before .before .before .before .before .before .before .before .before .before .before .before .args .path .now) - 1) 0 * 4294967296 + getD ws 640 0) ∙ long limits (omega arith) ws (c .before .before .before .before .before .before .before .before .before .before .before .before .before .before .before .before .pre .0) in simp length-set (omega arith)
+
+cast-t30 : tie.Need-cast-t30
+cast-t30 c = omega (arith, c .before .before .before .before .before .if2 .left)
+
+same-length-3 : tie.Need-same-length-3
+same-length-3 c = search needs
+
+returns-3 : tie.Need-returns-3
+returns-3 c =
+    let ws = c .before .before .before .before .before .before .before .args .table .now in
+    valued-refused limits (omega arith) ws (c .before .before .before .before .before .before .before .pre .0) (c .before .before .before .before .before .before .before .args .path .now) (c .before .before .before .find-spot .result) (c .before .before .before .find-spot .ensures) (c .before .before .before .before .before .before .before .args .value) (c .before .found .given .0 .0) (c .before .found .given .1)
+
+same-length-4 : tie.Need-same-length-4
+same-length-4 c = search needs
+
+returns-4 : tie.Need-returns-4
+returns-4 c =
+    let ws = c .before .before .before .before .before .before .args .table .now in
+    valued-bound limits (omega arith) ws (c .before .before .before .before .before .before .pre .0) (c .before .before .before .before .before .before .args .path .now) (c .before .before .find-spot .result) (c .before .before .find-spot .ensures) (c .before .before .before .before .before .before .args .value) _ (c .enum-told .given .1)
+
+same-length-5 : tie.Need-same-length-5
+same-length-5 c = search needs
+
+returns-5 : tie.Need-returns-5
+returns-5 c =
+    let ws = c .before .before .before .before .before .before .before .before .before .before .before .before .before .before .before .before .args .table .now in
+    valued limits (omega arith) ws (c .before .before .before .before .before .before .before .before .before .before .before .before .before .before .before .before .pre .0) (c .before .before .before .before .before .before .before .before .before .before .before .before .before .before .before .before .args .path .now) (c .before .before .before .before .before .before .before .before .before .before .before .before .find-spot .result) (c .before .before .before .before .before .before .before .before .before .before .before .before .find-spot .ensures) (c .before .before .before .before .before .before .before .before .before .before .before .before .before .before .before .before .args .value) (omega arith) (c .before .before .before .before .before .before .before .before .before .before .found2 .given .0 .0) (c .before .before .before .before .before .before .before .before .before .before .found2 .given .0 .1 .0) (c .before .before .before .before .before .before .before .before .before .before .found2 .given .1) (c .before .before .before .before .before .before .before .if1 .left) (c .before .before .before .before .before .if2 .left) _ (c .before .before .bind .ensures)
+
+pub add-value-spec : {M : Type 1} → statement M
+add-value-spec =
+    tie.close
+    (tie.spec
+    find-spot-requires
+    enum-known-found
+    enum-told
+    enum-known-found-2
+    slice-read-if1
+    same-length
+    returns
+    slice-read-made
+    same-length-2
+    returns-2
+    sub-bind
+    mul-bind
+    shared-slice-read-bind
+    mul-bind-2
+    add-bind
+    bind-requires
+    add-table
+    mul-table
+    slice-write-table
+    add-table-2
+    slice-write-table-2
+    cast-t30
+    same-length-3
+    returns-3
+    same-length-4
+    returns-4
+    same-length-5
+    returns-5)

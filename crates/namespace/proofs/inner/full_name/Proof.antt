@@ -1,0 +1,48 @@
+-- The path cut short, and one component more.
+use mathlib.Core.Path.{_≡_, _∙_}
+use lib.ListN.{length}
+use Rattle.name_object.specs.Memory.{pathOf}
+use Rattle.path.proofs.Walks.{length-path}
+use Rattle.namespace.proofs.Keys.{settled-count}
+use Rattle.namespace.proofs.Bare.{cut-count, put-bare}
+use borrow.Author.Needs.{needs}
+use native.Mathlib.Omega.{arith}
+use Rattle.namespace.proofs.inner.full_name.Statement.{statement}
+use Rattle.namespace.proofs.inner.full_name.Tie as tie
+
+within-requires : tie.Need-within-requires
+within-requires c κs = (c .pre .0, c .pre .2)
+
+element-copy-out-push : tie.Need-element-copy-out-push
+element-copy-out-push c = search needs
+
+element-copy-out-push-2 : tie.Need-element-copy-out-push-2
+element-copy-out-push-2 c = search needs
+
+element-copy-out-push-3 : tie.Need-element-copy-out-push-3
+element-copy-out-push-3 c = search needs
+
+element-copy-out-push-4 : tie.Need-element-copy-out-push-4
+element-copy-out-push-4 c = search needs
+
+push-requires : tie.Need-push-requires
+push-requires c κs =
+    let s = settled-count (c .before .before .before .before .before .args .scope) (c .before .before .before .before .before .pre .0) in
+    omega (arith, cut-count (pathOf (c .before .before .before .before .before .args .scope)) (c .before .before .before .before .before .args .n) (c .before .before .before .before .within .result) (omega (arith, length-path (c .before .before .before .before .before .args .scope), c .before .before .before .before .before .pre .2)) (c .before .before .before .before .within .ensures), c .before .before .before .before .before .pre .3)
+
+returns : tie.Need-returns
+returns c =
+    let len : length (c .before .before .before .before .before .before .args .t3 .bytes) ≡ 128 = search needs in
+    c .push .ensures ∙ put-bare (pathOf (c .before .before .before .before .before .before .args .scope)) (c .before .before .before .before .before .before .args .n) (c .before .before .before .before .before .before .args .t3) len (c .before .before .before .before .before .before .pre .1) (c .before .before .before .before .before .within .result) (omega (arith, length-path (c .before .before .before .before .before .before .args .scope), c .before .before .before .before .before .before .pre .2)) (c .before .before .before .before .before .before .pre .3) (c .before .before .before .before .before .within .ensures)
+
+pub full-name-spec : {M : Type 1} → statement M
+full-name-spec =
+    tie.close
+    (tie.spec
+    within-requires
+    element-copy-out-push
+    element-copy-out-push-2
+    element-copy-out-push-3
+    element-copy-out-push-4
+    push-requires
+    returns)

@@ -1,0 +1,89 @@
+-- What the one pass found, by the definition.
+use mathlib.Core.Path.{_≡_, ap, ap₂, sym, _∙_}
+use mathlib.Core.List.{List}
+use Prim.Native.Nat.{ℕ}
+use lib.ListN.{length, take}
+use lib.Seq.{length-take-le}
+use Rattle.name_object.specs.Component.{componentLimit}
+use Rattle.name_object.specs.Memory.{told, pathOf}
+use Rattle.namespace.specs.Limits.{limits}
+use Rattle.namespace.specs.Search.{firstOf}
+use Rattle.namespace.specs.Inside.{nearLevelIn}
+use Rattle.namespace.proofs.Keys.{settled-count}
+use Rattle.namespace.proofs.LevelCalls.{length-ls}
+use Rattle.namespace.proofs.SearchCalls.{level-none, level-range, level-found}
+use borrow.Author.Needs.{needs}
+use native.Mathlib.Omega.{arith}
+use Rattle.namespace.proofs.inner.level_up.Statement.{statement}
+use Rattle.namespace.proofs.inner.level_up.Tie as tie
+
+keys-of-requires : tie.Need-keys-of-requires
+keys-of-requires c κs = c .before .pre .2
+
+bare-key-requires : tie.Need-bare-key-requires
+bare-key-requires c κs = c .before .before .pre .1
+
+slice-aggregate-nearest-level : tie.Need-slice-aggregate-nearest-level
+slice-aggregate-nearest-level c =
+    let ws = c .before .before .before .before .args .table .now in
+    sym (length-ls limits (omega arith) ws (c .before .before .before .before .pre .0))
+
+array-share-prefix-keys : tie.Need-array-share-prefix-keys
+array-share-prefix-keys c =
+    let n = settled-count (c .before .before .before .before .args .scope) (c .before .before .before .before .pre .2) in
+    let len : length (c .before .before .keys-of .result) ≡ 32 = search needs in
+    omega arith
+
+slice-aggregate-nearest-level-2 : tie.Need-slice-aggregate-nearest-level-2
+slice-aggregate-nearest-level-2 c =
+    let n = settled-count (c .before .before .before .before .before .args .scope) (c .before .before .before .before .before .pre .2) in
+    let len : length (c .before .before .before .keys-of .result) ≡ 32 = search needs in
+    sym (length-take-le (c .before .before .before .before .before .args .scope .count) (c .before .before .before .keys-of .result) (omega arith))
+
+nearest-level-requires : tie.Need-nearest-level-requires
+nearest-level-requires c κs = search needs
+
+no-level-requires : tie.Need-no-level-requires
+no-level-requires c κs = search needs
+
+returns : tie.Need-returns
+returns c =
+    let ws = c .before .before .before .before .before .before .before .before .args .table .now in
+    c .no-level .ensures ∙ ap (told componentLimit) (sym (level-none ws (c .before .before .before .before .before .before .before .before .pre .0) (c .before .before .before .before .before .before .before .before .args .scope) (c .before .before .before .before .before .before .before .before .pre .2) (firstOf (pathOf (c .before .before .before .before .before .before .before .before .args .path))) (c .before .before .nearest-level .result) (c .before .before .nearest-level .ensures ∙ ap₂ (λ (k : ℕ) (p : List ℕ). nearLevelIn k p (take 128 ws) 0 0) (c .before .before .before .before .before .bare-key .ensures) (c .before .before .before .before .before .before .keys-of .ensures)) (c .before .if1 .taken)))
+
+full-name-requires : tie.Need-full-name-requires
+full-name-requires c κs =
+    let ws = c .before .before .before .before .before .before .before .args .table .now in
+    (c .before .before .before .before .before .before .before .pre .2, c .before .before .before .before .before .before .before .pre .1, level-range ws (c .before .before .before .before .before .before .before .pre .0) (c .before .before .before .before .before .before .before .args .scope) (c .before .before .before .before .before .before .before .pre .2) (firstOf (pathOf (c .before .before .before .before .before .before .before .args .path))) (c .before .nearest-level .result) (c .before .nearest-level .ensures ∙ ap₂ (λ (k : ℕ) (p : List ℕ). nearLevelIn k p (take 128 ws) 0 0) (c .before .before .before .before .bare-key .ensures) (c .before .before .before .before .before .keys-of .ensures)) (c .if1 .left) .0, level-range ws (c .before .before .before .before .before .before .before .pre .0) (c .before .before .before .before .before .before .before .args .scope) (c .before .before .before .before .before .before .before .pre .2) (firstOf (pathOf (c .before .before .before .before .before .before .before .args .path))) (c .before .nearest-level .result) (c .before .nearest-level .ensures ∙ ap₂ (λ (k : ℕ) (p : List ℕ). nearLevelIn k p (take 128 ws) 0 0) (c .before .before .before .before .bare-key .ensures) (c .before .before .before .before .before .keys-of .ensures)) (c .if1 .left) .1)
+
+sub-t16 : tie.Need-sub-t16
+sub-t16 c =
+    let ws = c .before .before .before .before .before .before .before .before .args .table .now in
+    level-range ws (c .before .before .before .before .before .before .before .before .pre .0) (c .before .before .before .before .before .before .before .before .args .scope) (c .before .before .before .before .before .before .before .before .pre .2) (firstOf (pathOf (c .before .before .before .before .before .before .before .before .args .path))) (c .before .before .nearest-level .result) (c .before .before .nearest-level .ensures ∙ ap₂ (λ (k : ℕ) (p : List ℕ). nearLevelIn k p (take 128 ws) 0 0) (c .before .before .before .before .before .bare-key .ensures) (c .before .before .before .before .before .before .keys-of .ensures)) (c .before .if1 .left) .0
+
+add-t17 : tie.Need-add-t17
+add-t17 c =
+    let ws = c .before .before .before .before .before .before .before .before .args .table .now in
+    let n = settled-count (c .before .before .before .before .before .before .before .before .args .scope) (c .before .before .before .before .before .before .before .before .pre .2) in omega arith
+
+returns-2 : tie.Need-returns-2
+returns-2 c =
+    let ws = c .before .before .before .before .before .before .before .before .args .table .now in
+    level-found ws (c .before .before .before .before .before .before .before .before .pre .0) (c .before .before .before .before .before .before .before .before .args .scope) (c .before .before .before .before .before .before .before .before .pre .2) (firstOf (pathOf (c .before .before .before .before .before .before .before .before .args .path))) (c .before .before .nearest-level .result) (c .before .before .nearest-level .ensures ∙ ap₂ (λ (k : ℕ) (p : List ℕ). nearLevelIn k p (take 128 ws) 0 0) (c .before .before .before .before .before .bare-key .ensures) (c .before .before .before .before .before .before .keys-of .ensures)) (c .before .if1 .left) (c .full-name .result) (c .full-name .ensures)
+
+pub level-up-spec : {M : Type 1} → statement M
+level-up-spec =
+    tie.close
+    (tie.spec
+    keys-of-requires
+    bare-key-requires
+    slice-aggregate-nearest-level
+    array-share-prefix-keys
+    slice-aggregate-nearest-level-2
+    nearest-level-requires
+    no-level-requires
+    returns
+    full-name-requires
+    sub-t16
+    add-t17
+    returns-2)

@@ -1,0 +1,52 @@
+-- By where the last segment is.
+use Rattle.namespace.specs.Limits.{limits}
+use Rattle.namespace.proofs.ValueCalls.{looked-bound, looked-free, looked-refused}
+use borrow.Author.Needs.{needs}
+use native.Mathlib.Omega.{arith}
+use Rattle.namespace.proofs.inner.look_up.Statement.{statement}
+use Rattle.namespace.proofs.inner.look_up.Tie as tie
+
+find-spot-requires : tie.Need-find-spot-requires
+find-spot-requires c κs = search needs
+
+enum-known-found : tie.Need-enum-known-found
+enum-known-found c = search needs
+
+cast-t7 : tie.Need-cast-t7
+cast-t7 c =
+    let ws = c .before .before .before .before .before .before .args .table .now in
+    omega (arith, looked-bound limits (omega arith) ws (c .before .before .before .before .before .before .pre .0) (c .before .before .before .before .before .before .args .path .now) (c .before .before .before .find-spot .result) (c .before .before .before .find-spot .ensures) (c .before .found .given .0 .0) (c .before .found .given .1) .1)
+
+enum-told : tie.Need-enum-told
+enum-told c = search needs
+
+enum-known-found-2 : tie.Need-enum-known-found-2
+enum-known-found-2 c = search needs
+
+returns : tie.Need-returns
+returns c =
+    let ws = c .before .before .before .before .before .before .args .table .now in
+    looked-bound limits (omega arith) ws (c .before .before .before .before .before .before .pre .0) (c .before .before .before .before .before .before .args .path .now) (c .before .before .before .find-spot .result) (c .before .before .before .find-spot .ensures) (c .before .found .given .0 .0) (c .before .found .given .1) .0
+
+returns-2 : tie.Need-returns-2
+returns-2 c =
+    let ws = c .before .before .before .before .before .args .table .now in
+    looked-free limits (omega arith) ws (c .before .before .before .before .before .pre .0) (c .before .before .before .before .before .args .path .now) (c .before .before .find-spot .result) (c .before .before .find-spot .ensures) _ _ (c .enum-told .given .1)
+
+returns-3 : tie.Need-returns-3
+returns-3 c =
+    let ws = c .before .before .before .before .before .before .args .table .now in
+    looked-refused limits (omega arith) ws (c .before .before .before .before .before .before .pre .0) (c .before .before .before .before .before .before .args .path .now) (c .before .before .before .find-spot .result) (c .before .before .before .find-spot .ensures) (c .before .found2 .given .0 .0) (c .before .found2 .given .1)
+
+pub look-up-spec : {M : Type 1} → statement M
+look-up-spec =
+    tie.close
+    (tie.spec
+    find-spot-requires
+    enum-known-found
+    cast-t7
+    enum-told
+    enum-known-found-2
+    returns
+    returns-2
+    returns-3)

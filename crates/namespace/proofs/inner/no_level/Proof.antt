@@ -1,0 +1,15 @@
+-- The empty path beside the refusal.
+use mathlib.Core.Path.{refl}
+use Rattle.namespace.proofs.SearchCalls.{same-told}
+use borrow.Author.Needs.{needs}
+use Rattle.namespace.proofs.inner.no_level.Statement.{statement}
+use Rattle.namespace.proofs.inner.no_level.Tie as tie
+
+empty-requires : tie.Need-empty-requires
+empty-requires c κs = search needs
+
+returns : tie.Need-returns
+returns c = same-told (c .empty .ensures) refl
+
+pub no-level-spec : {M : Type 1} → statement M
+no-level-spec = tie.close (tie.spec empty-requires returns)

@@ -1,0 +1,41 @@
+-- One law for each answer.
+use Rattle.namespace.specs.Limits.{limits}
+use Rattle.namespace.proofs.Objects.{long, long-enough, get-found, get-none}
+use borrow.Author.Needs.{needs}
+use native.Mathlib.Omega.{arith}
+use Rattle.namespace.proofs.inner.read.Statement.{statement}
+use Rattle.namespace.proofs.inner.read.Tie as tie
+
+cast-h : tie.Need-cast-h
+cast-h c = search needs
+
+shared-slice-read-made : tie.Need-shared-slice-read-made
+shared-slice-read-made c =
+    let ws = c .before .before .args .table .now in
+    omega (arith, long limits (omega arith) ws (c .before .before .pre))
+
+add-t9 : tie.Need-add-t9
+add-t9 c = search needs
+
+mul-t10 : tie.Need-mul-t10
+mul-t10 c = search needs
+
+shared-slice-read-t12 : tie.Need-shared-slice-read-t12
+shared-slice-read-t12 c =
+    let ws = c .before .before .before .before .args .table .now in
+    omega (arith, long limits (omega arith) ws (c .before .before .before .before .pre), long-enough limits (omega arith) ws (c .before .before .before .before .pre))
+
+returns : tie.Need-returns
+returns c =
+    let ws = c .before .before .before .before .args .table .now in
+    get-found limits (omega arith) ws (c .before .before .before .before .pre) (c .before .before .before .before .args .handle .0) (c .before .if1 .taken)
+
+returns-2 : tie.Need-returns-2
+returns-2 c =
+    let ws = c .before .before .before .args .table .now in
+    get-none limits (omega arith) ws (c .before .before .before .pre) (c .before .before .before .args .handle .0) (c .if1 .left)
+
+pub read-spec : {M : Type 1} → statement M
+read-spec =
+    tie.close
+    (tie.spec cast-h shared-slice-read-made add-t9 mul-t10 shared-slice-read-t12 returns returns-2)

@@ -1,0 +1,140 @@
+-- One law for each answer, by what the pass told.
+use mathlib.Core.Path.{sym}
+use Rattle.namespace.specs.Limits.{limits}
+use Rattle.namespace.proofs.Objects.{long}
+use Rattle.namespace.proofs.LevelCalls.{length-ls, removed-root, removed-before, removed-missing, from-is, removed-place, run-fits, moved-long, moved-range, moved}
+use borrow.Author.Needs.{needs}
+use native.Mathlib.Omega.{arith}
+use Rattle.namespace.proofs.inner.remove_level.Statement.{statement}
+use Rattle.namespace.proofs.inner.remove_level.Tie as tie
+
+returns : tie.Need-returns
+returns c =
+    let ws = c .before .before .before .args .table .now in
+    removed-root limits (omega arith) ws (c .before .before .before .pre .0) (c .before .before .before .args .path .now) (c .if1 .taken)
+
+slice-reshare-prefix-seek : tie.Need-slice-reshare-prefix-seek
+slice-reshare-prefix-seek c =
+    let ws = c .before .before .before .args .table .now in
+    omega (arith, long limits (omega arith) ws (c .before .before .before .pre .0))
+
+slice-aggregate-seek : tie.Need-slice-aggregate-seek
+slice-aggregate-seek c =
+    let ws = c .before .before .before .before .args .table .now in
+    sym (length-ls limits (omega arith) ws (c .before .before .before .before .pre .0))
+
+seek-requires : tie.Need-seek-requires
+seek-requires c κs =
+    let ws = c .before .before .before .before .args .table .now in
+    omega (arith, length-ls limits (omega arith) ws (c .before .before .before .before .pre .0))
+
+enum-known-found : tie.Need-enum-known-found
+enum-known-found c = search needs
+
+slice-reshare-prefix-subtree : tie.Need-slice-reshare-prefix-subtree
+slice-reshare-prefix-subtree c =
+    let ws = c .before .before .before .before .before .before .before .before .args .table .now in
+    omega (arith, long limits (omega arith) ws (c .before .before .before .before .before .before .before .before .pre .0))
+
+slice-aggregate-subtree : tie.Need-slice-aggregate-subtree
+slice-aggregate-subtree c =
+    let ws = c .before .before .before .before .before .before .before .before .before .args .table .now in
+    sym (length-ls limits (omega arith) ws (c .before .before .before .before .before .before .before .before .before .pre .0))
+
+subtree-requires : tie.Need-subtree-requires
+subtree-requires c κs =
+    let ws = c .before .before .before .before .before .before .before .before .before .args .table .now in
+    (removed-place limits (omega arith) ws (c .before .before .before .before .before .before .before .before .before .pre .0) (c .before .before .before .before .before .before .before .before .before .args .path .now) (omega arith) (c .before .before .before .before .seek .result) (c .before .before .before .before .seek .ensures) (c .before .before .found .given .0 .0) (c .before .before .found .given .0 .1 .0) (c .before .before .found .given .1) .0, omega (arith, length-ls limits (omega arith) ws (c .before .before .before .before .before .before .before .before .before .pre .0)), from-is limits (omega arith) ws (c .before .before .before .before .before .before .before .before .before .pre .0) (c .before .before .before .before .before .before .before .before .before .args .path .now) (omega arith) (c .before .before .before .before .seek .result) (c .before .before .before .before .seek .ensures) (c .before .before .found .given .0 .0) (c .before .before .found .given .0 .1 .0) (c .before .before .found .given .1))
+
+slice-relend-prefix-close-gap : tie.Need-slice-relend-prefix-close-gap
+slice-relend-prefix-close-gap c =
+    let ws = c .before .before .before .before .before .before .before .before .before .before .args .table .now in
+    omega (arith, long limits (omega arith) ws (c .before .before .before .before .before .before .before .before .before .before .pre .0))
+
+slice-aggregate-close-gap : tie.Need-slice-aggregate-close-gap
+slice-aggregate-close-gap c =
+    let ws = c .before .before .before .before .before .before .before .before .before .before .before .args .table .now in
+    sym (length-ls limits (omega arith) ws (c .before .before .before .before .before .before .before .before .before .before .before .pre .0))
+
+close-gap-requires : tie.Need-close-gap-requires
+close-gap-requires c κs =
+    let ws = c .before .before .before .before .before .before .before .before .before .before .before .args .table .now in
+    run-fits limits (omega arith) ws (c .before .before .before .before .before .before .before .before .before .before .before .pre .0) (c .before .before .before .before .before .before .before .before .before .before .before .args .path .now) (omega arith) (c .before .before .before .before .before .before .seek .result) (c .before .before .before .before .before .before .seek .ensures) (c .before .before .before .before .found .given .0 .0) (c .before .before .before .before .found .given .0 .1 .0) (c .before .before .before .before .found .given .1) (c .before .subtree .result) (c .before .subtree .ensures)
+
+sub-close-gap : tie.Need-sub-close-gap
+sub-close-gap c = search needs
+
+part-close-gap-start : tie.Need-part-close-gap-start
+part-close-gap-start c = search needs
+
+part-close-gap-end : tie.Need-part-close-gap-end
+part-close-gap-end c =
+    let ws = c .before .before .before .before .before .before .before .before .before .before .before .before .before .before .args .table .now in
+    moved-long limits (omega arith) ws (c .before .before .before .before .before .before .before .before .before .before .before .before .before .before .pre .0) (c .before .before .before .before .before .before .before .before .before .before .before .before .before .before .args .path .now) (omega arith) (c .before .before .before .before .before .before .before .before .before .seek .result) (c .before .before .before .before .before .before .before .before .before .seek .ensures) (c .before .before .before .before .before .before .before .found .given .0 .0) (c .before .before .before .before .before .before .before .found .given .0 .1 .0) (c .before .before .before .before .before .before .before .found .given .1) (c .before .before .before .before .subtree .result) (c .before .before .before .before .subtree .ensures) (c .before .before .close-gap .last .0) (c .before .before .close-gap .ensures)
+
+close-gap-requires-2 : tie.Need-close-gap-requires-2
+close-gap-requires-2 c κs =
+    let ws = c .before .before .before .before .before .before .before .before .before .before .before .before .before .before .before .args .table .now in
+    moved-range limits (omega arith) ws (c .before .before .before .before .before .before .before .before .before .before .before .before .before .before .before .pre .0) (c .before .before .before .before .before .before .before .before .before .before .before .before .before .before .before .args .path .now) (omega arith) (c .before .before .before .before .before .before .before .before .before .before .seek .result) (c .before .before .before .before .before .before .before .before .before .before .seek .ensures) (c .before .before .before .before .before .before .before .before .found .given .0 .0) (c .before .before .before .before .before .before .before .before .found .given .0 .1 .0) (c .before .before .before .before .before .before .before .before .found .given .1) (c .before .before .before .before .before .subtree .result) (c .before .before .before .before .before .subtree .ensures) (c .before .before .before .close-gap .last .0) (c .before .before .before .close-gap .ensures)
+
+enum-told : tie.Need-enum-told
+enum-told c = search needs
+
+sub-t25 : tie.Need-sub-t25
+sub-t25 c = search needs
+
+enum-known-found-2 : tie.Need-enum-known-found-2
+enum-known-found-2 c = search needs
+
+same-length : tie.Need-same-length
+same-length c = search needs
+
+returns-2 : tie.Need-returns-2
+returns-2 c =
+    let ws = c .before .before .before .before .before .before .before .before .before .before .before .before .before .before .before .before .before .before .args .table .now in
+    moved limits (omega arith) ws (c .before .before .before .before .before .before .before .before .before .before .before .before .before .before .before .before .before .before .pre .0) (c .before .before .before .before .before .before .before .before .before .before .before .before .before .before .before .before .before .before .args .path .now) (omega arith) (c .before .before .before .before .before .before .before .before .before .before .before .before .before .seek .result) (c .before .before .before .before .before .before .before .before .before .before .before .before .before .seek .ensures) (c .before .before .before .before .before .before .before .before .before .before .before .found .given .0 .0) (c .before .before .before .before .before .before .before .before .before .before .before .found .given .0 .1 .0) (c .before .before .before .before .before .before .before .before .before .before .before .found .given .1) (c .before .before .before .before .before .before .before .before .subtree .result) (c .before .before .before .before .before .before .before .before .subtree .ensures) (c .before .before .before .before .before .before .close-gap .last .0) (c .before .before .before .before .before .before .close-gap .ensures) _ (c .before .before .close-gap2 .ensures)
+
+same-length-2 : tie.Need-same-length-2
+same-length-2 c = search needs
+
+returns-3 : tie.Need-returns-3
+returns-3 c =
+    let ws = c .before .before .before .before .before .before .before .args .table .now in
+    removed-before limits (omega arith) ws (c .before .before .before .before .before .before .before .pre .0) (c .before .before .before .before .before .before .before .args .path .now) (omega arith) (c .before .before .seek .result) (c .before .before .seek .ensures) _ (c .enum-told .given .1)
+
+same-length-3 : tie.Need-same-length-3
+same-length-3 c = search needs
+
+returns-4 : tie.Need-returns-4
+returns-4 c =
+    let ws = c .before .before .before .before .before .before .before .before .args .table .now in
+    removed-missing limits (omega arith) ws (c .before .before .before .before .before .before .before .before .pre .0) (c .before .before .before .before .before .before .before .before .args .path .now) (omega arith) (c .before .before .before .seek .result) (c .before .before .before .seek .ensures) (c .before .found2 .given .0 .0) (c .before .found2 .given .1)
+
+pub remove-level-spec : {M : Type 1} → statement M
+remove-level-spec =
+    tie.close
+    (tie.spec
+    returns
+    slice-reshare-prefix-seek
+    slice-aggregate-seek
+    seek-requires
+    enum-known-found
+    slice-reshare-prefix-subtree
+    slice-aggregate-subtree
+    subtree-requires
+    slice-relend-prefix-close-gap
+    slice-aggregate-close-gap
+    close-gap-requires
+    sub-close-gap
+    part-close-gap-start
+    part-close-gap-end
+    close-gap-requires-2
+    enum-told
+    sub-t25
+    enum-known-found-2
+    same-length
+    returns-2
+    same-length-2
+    returns-3
+    same-length-3
+    returns-4)

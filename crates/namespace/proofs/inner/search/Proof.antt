@@ -1,0 +1,63 @@
+-- The scope, and then by the kind of path.
+use mathlib.Core.Path.{ap, sym, _∙_}
+use Rattle.name_object.specs.Component.{componentLimit}
+use Rattle.name_object.specs.Memory.{told, pathOf}
+use Rattle.namespace.specs.Limits.{limits}
+use Rattle.namespace.proofs.Keys.{settled-given, settled-lost}
+use Rattle.namespace.proofs.SearchCalls.{search-scope, search-bare, search-other}
+use borrow.Author.Needs.{needs}
+use Rattle.namespace.proofs.inner.search.Statement.{statement}
+use Rattle.namespace.proofs.inner.search.Tie as tie
+
+settled-requires : tie.Need-settled-requires
+settled-requires c κs = search needs
+
+enum-known-said : tie.Need-enum-known-said
+enum-known-said c = search needs
+
+not-found-requires : tie.Need-not-found-requires
+not-found-requires c κs = search needs
+
+enum-told : tie.Need-enum-told
+enum-told c = search needs
+
+is-bare-requires : tie.Need-is-bare-requires
+is-bare-requires c κs = c .before .before .before .before .before .pre .1
+
+search-up-requires : tie.Need-search-up-requires
+search-up-requires c κs =
+    (c .before .before .before .before .before .before .before .pre .0, record { path = c .before .before .before .before .before .before .before .pre .1; alone = sym (c .before .is-bare .ensures) ∙ c .if1 .taken }, (settled-given (c .before .before .before .before .before .before .before .args .starting-scope) (c .before .before .before .before .before .settled .result) (c .before .before .before .before .before .settled .ensures) (c .before .before .before .enum-told .given .1)) .0)
+
+search-once-requires : tie.Need-search-once-requires
+search-once-requires c κs =
+    (c .before .before .before .before .before .before .before .pre .0, c .before .before .before .before .before .before .before .pre .1, (settled-given (c .before .before .before .before .before .before .before .args .starting-scope) (c .before .before .before .before .before .settled .result) (c .before .before .before .before .before .settled .ensures) (c .before .before .before .enum-told .given .1)) .0)
+
+returns : tie.Need-returns
+returns c =
+    let ws = c .before .before .before .before .before .before .args .table .now in
+    c .not-found .ensures ∙ ap (told componentLimit) (search-scope limits ws (c .before .before .before .before .before .before .args .path) (c .before .before .before .before .before .before .args .starting-scope) (c .before .before .before .before .before .before .pre .0) (c .before .before .before .before .before .before .pre .1) (c .before .before .said .given .0 .0) (settled-lost (c .before .before .before .before .before .before .args .starting-scope) (c .before .before .before .before .settled .result) (c .before .before .before .before .settled .ensures) (c .before .before .said .given .0 .0) (c .before .before .said .given .1)))
+
+returns-2 : tie.Need-returns-2
+returns-2 c =
+    let ws = c .before .before .before .before .before .before .before .before .args .table .now in
+    c .search-up .ensures ∙ ap (told componentLimit) (search-bare limits ws (c .before .before .before .before .before .before .before .before .args .path) (c .before .before .before .before .before .before .before .before .args .starting-scope) (c .before .before .before .before .before .before .before .before .pre .0) (c .before .before .before .before .before .before .before .before .pre .1) (pathOf (c .before .before .before .before .before .before .settled .result .name)) ((settled-given (c .before .before .before .before .before .before .before .before .args .starting-scope) (c .before .before .before .before .before .before .settled .result) (c .before .before .before .before .before .before .settled .ensures) (c .before .before .before .before .enum-told .given .1)) .1) (sym (c .before .before .is-bare .ensures) ∙ c .before .if1 .taken))
+
+returns-3 : tie.Need-returns-3
+returns-3 c =
+    let ws = c .before .before .before .before .before .before .before .before .args .table .now in
+    c .search-once .ensures ∙ ap (told componentLimit) (search-other limits ws (c .before .before .before .before .before .before .before .before .args .path) (c .before .before .before .before .before .before .before .before .args .starting-scope) (c .before .before .before .before .before .before .before .before .pre .0) (c .before .before .before .before .before .before .before .before .pre .1) (pathOf (c .before .before .before .before .before .before .settled .result .name)) ((settled-given (c .before .before .before .before .before .before .before .before .args .starting-scope) (c .before .before .before .before .before .before .settled .result) (c .before .before .before .before .before .before .settled .ensures) (c .before .before .before .before .enum-told .given .1)) .1) (sym (c .before .before .is-bare .ensures) ∙ c .before .if1 .left))
+
+pub search-spec : {M : Type 1} → statement M
+search-spec =
+    tie.close
+    (tie.spec
+    settled-requires
+    enum-known-said
+    not-found-requires
+    enum-told
+    is-bare-requires
+    search-up-requires
+    search-once-requires
+    returns
+    returns-2
+    returns-3)

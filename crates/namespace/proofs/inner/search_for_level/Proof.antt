@@ -1,0 +1,50 @@
+-- A bare segment is searched; any other path is returned.
+use mathlib.Core.Path.{_≡_, refl, ap, sym, _∙_}
+use lib.ListN.{length}
+use Rattle.name_object.specs.Component.{componentLimit}
+use Rattle.name_object.specs.Memory.{told}
+use Rattle.name_object.proofs.Paths.{name-whole}
+use Rattle.namespace.specs.Limits.{limits}
+use Rattle.namespace.proofs.SearchCalls.{same-told, level-same, level-other}
+use borrow.Author.Needs.{needs}
+use Rattle.namespace.proofs.inner.search_for_level.Statement.{statement}
+use Rattle.namespace.proofs.inner.search_for_level.Tie as tie
+
+is-bare-requires : tie.Need-is-bare-requires
+is-bare-requires c κs = c .before .pre .1
+
+search-level-up-requires : tie.Need-search-level-up-requires
+search-level-up-requires c κs =
+    (c .before .before .before .pre .0, record { path = c .before .before .before .pre .1; alone = sym (c .before .is-bare .ensures) ∙ c .if1 .taken })
+
+returns : tie.Need-returns
+returns c = c .search-level-up .ensures
+
+is-path-requires : tie.Need-is-path-requires
+is-path-requires c κs = search needs
+
+returns-2 : tie.Need-returns-2
+returns-2 c =
+    let ws = c .before .before .before .before .before .args .table .now in
+    let len : length (c .before .before .before .before .before .args .level-name .bytes) ≡ 128 = search needs in
+    same-told (sym (name-whole componentLimit (c .before .before .before .before .before .args .level-name) len (c .before .before .before .before .before .pre .1))) refl ∙ ap (told componentLimit) (level-same limits ws (c .before .before .before .before .before .args .level-name) (c .before .before .before .before .before .args .starting-scope) (c .before .before .before .before .before .pre .0) (c .before .before .before .before .before .pre .1) (sym (c .before .before .before .is-bare .ensures) ∙ c .before .before .if1 .left) (sym (c .before .is-path .ensures) ∙ c .if2 .taken))
+
+no-level-requires : tie.Need-no-level-requires
+no-level-requires c κs = search needs
+
+returns-3 : tie.Need-returns-3
+returns-3 c =
+    let ws = c .before .before .before .before .before .before .args .table .now in
+    c .no-level .ensures ∙ ap (told componentLimit) (level-other limits ws (c .before .before .before .before .before .before .args .level-name) (c .before .before .before .before .before .before .args .starting-scope) (c .before .before .before .before .before .before .pre .0) (c .before .before .before .before .before .before .pre .1) (sym (c .before .before .before .before .is-bare .ensures) ∙ c .before .before .before .if1 .left) (sym (c .before .before .is-path .ensures) ∙ c .before .if2 .left))
+
+pub search-for-level-spec : {M : Type 1} → statement M
+search-for-level-spec =
+    tie.close
+    (tie.spec
+    is-bare-requires
+    search-level-up-requires
+    returns
+    is-path-requires
+    returns-2
+    no-level-requires
+    returns-3)

@@ -1,0 +1,48 @@
+-- The scope, and then outwards.
+use mathlib.Core.Path.{ap, sym, _∙_}
+use Rattle.name_object.specs.Component.{componentLimit}
+use Rattle.name_object.specs.Memory.{told, pathOf}
+use Rattle.namespace.specs.Limits.{limits}
+use Rattle.namespace.proofs.Keys.{settled-given, settled-lost}
+use Rattle.namespace.proofs.SearchCalls.{level-scope, level-bare}
+use borrow.Author.Needs.{needs}
+use Rattle.namespace.proofs.inner.search_level_up.Statement.{statement}
+use Rattle.namespace.proofs.inner.search_level_up.Tie as tie
+
+settled-requires : tie.Need-settled-requires
+settled-requires c κs = search needs
+
+enum-known-said : tie.Need-enum-known-said
+enum-known-said c = search needs
+
+no-level-requires : tie.Need-no-level-requires
+no-level-requires c κs = search needs
+
+enum-told : tie.Need-enum-told
+enum-told c = search needs
+
+level-up-requires : tie.Need-level-up-requires
+level-up-requires c κs =
+    (c .before .before .before .before .before .pre .0, c .before .before .before .before .before .pre .1, (settled-given (c .before .before .before .before .before .args .starting-scope) (c .before .before .before .settled .result) (c .before .before .before .settled .ensures) (c .before .enum-told .given .1)) .0)
+
+returns : tie.Need-returns
+returns c =
+    let ws = c .before .before .before .before .before .before .args .table .now in
+    c .no-level .ensures ∙ ap (told componentLimit) (level-scope limits ws (c .before .before .before .before .before .before .args .level-name) (c .before .before .before .before .before .before .args .starting-scope) (c .before .before .before .before .before .before .pre .0) (c .before .before .before .before .before .before .pre .1 .path) (c .before .before .before .before .before .before .pre .1 .alone) (c .before .before .said .given .0 .0) (settled-lost (c .before .before .before .before .before .before .args .starting-scope) (c .before .before .before .before .settled .result) (c .before .before .before .before .settled .ensures) (c .before .before .said .given .0 .0) (c .before .before .said .given .1)))
+
+returns-2 : tie.Need-returns-2
+returns-2 c =
+    let ws = c .before .before .before .before .before .before .args .table .now in
+    c .level-up .ensures ∙ ap (told componentLimit) (level-bare limits ws (c .before .before .before .before .before .before .args .level-name) (c .before .before .before .before .before .before .args .starting-scope) (c .before .before .before .before .before .before .pre .0) (c .before .before .before .before .before .before .pre .1 .path) (c .before .before .before .before .before .before .pre .1 .alone) (pathOf (c .before .before .before .before .settled .result .name)) ((settled-given (c .before .before .before .before .before .before .args .starting-scope) (c .before .before .before .before .settled .result) (c .before .before .before .before .settled .ensures) (c .before .before .enum-told .given .1)) .1))
+
+pub search-level-up-spec : {M : Type 1} → statement M
+search-level-up-spec =
+    tie.close
+    (tie.spec
+    settled-requires
+    enum-known-said
+    no-level-requires
+    enum-told
+    level-up-requires
+    returns
+    returns-2)

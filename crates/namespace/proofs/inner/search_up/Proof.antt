@@ -1,0 +1,113 @@
+-- What the one pass found, by the definition.
+use mathlib.Core.Path.{_≡_, ap, ap₂, sym, _∙_}
+use mathlib.Core.List.{List}
+use Prim.Native.Nat.{ℕ}
+use lib.ListN.{length, take, drop}
+use lib.Seq.{length-take-le}
+use Rattle.name_object.specs.Component.{componentLimit}
+use Rattle.name_object.specs.Memory.{told, pathOf}
+use Rattle.namespace.specs.Limits.{limits}
+use Rattle.namespace.specs.Search.{firstOf}
+use Rattle.namespace.specs.Inside.{nearIn, farthest}
+use Rattle.namespace.proofs.Objects.{long}
+use Rattle.namespace.proofs.BindCalls.{bindings-held}
+use Rattle.namespace.proofs.Keys.{settled-count}
+use Rattle.namespace.proofs.LevelCalls.{length-ls}
+use Rattle.namespace.proofs.SearchCalls.{up-none, up-range, up-found}
+use borrow.Author.Needs.{needs}
+use native.Mathlib.Omega.{arith}
+use Rattle.namespace.proofs.inner.search_up.Statement.{statement}
+use Rattle.namespace.proofs.inner.search_up.Tie as tie
+
+keys-of-requires : tie.Need-keys-of-requires
+keys-of-requires c κs = c .before .pre .2
+
+bare-key-requires : tie.Need-bare-key-requires
+bare-key-requires c κs = c .before .before .pre .1
+
+slice-aggregate-nearest-value : tie.Need-slice-aggregate-nearest-value
+slice-aggregate-nearest-value c =
+    let ws = c .before .before .before .before .args .table .now in
+    sym (length-ls limits (omega arith) ws (c .before .before .before .before .pre .0))
+
+sub-nearest-value : tie.Need-sub-nearest-value
+sub-nearest-value c = search needs
+
+part-nearest-value-start : tie.Need-part-nearest-value-start
+part-nearest-value-start c = search needs
+
+part-nearest-value-end : tie.Need-part-nearest-value-end
+part-nearest-value-end c =
+    let ws = c .before .before .before .before .args .table .now in
+    omega (arith, long limits (omega arith) ws (c .before .before .before .before .pre .0))
+
+array-share-prefix-keys : tie.Need-array-share-prefix-keys
+array-share-prefix-keys c =
+    let n = settled-count (c .before .before .before .before .before .args .scope) (c .before .before .before .before .before .pre .2) in
+    let len : length (c .before .before .before .keys-of .result) ≡ 32 = search needs in
+    omega arith
+
+slice-aggregate-nearest-value-2 : tie.Need-slice-aggregate-nearest-value-2
+slice-aggregate-nearest-value-2 c =
+    let n = settled-count (c .before .before .before .before .before .before .args .scope) (c .before .before .before .before .before .before .pre .2) in
+    let len : length (c .before .before .before .before .keys-of .result) ≡ 32 = search needs in
+    sym (length-take-le (c .before .before .before .before .before .before .args .scope .count) (c .before .before .before .before .keys-of .result) (omega arith))
+
+nearest-value-requires : tie.Need-nearest-value-requires
+nearest-value-requires c κs =
+    let ws = c .before .before .before .before .before .before .args .table .now in
+    (omega (arith, length-ls limits (omega arith) ws (c .before .before .before .before .before .before .pre .0)), bindings-held limits (omega arith) ws (c .before .before .before .before .before .before .pre .0))
+
+not-found-requires : tie.Need-not-found-requires
+not-found-requires c κs = search needs
+
+returns : tie.Need-returns
+returns c =
+    let ws = c .before .before .before .before .before .before .before .before .before .args .table .now in
+    c .not-found .ensures ∙ ap (told componentLimit) (sym (up-none ws (c .before .before .before .before .before .before .before .before .before .pre .0) (c .before .before .before .before .before .before .before .before .before .args .scope) (c .before .before .before .before .before .before .before .before .before .pre .2) (firstOf (pathOf (c .before .before .before .before .before .before .before .before .before .args .path))) (c .before .before .nearest-value .result) (c .before .before .nearest-value .ensures ∙ ap₂ (λ (k : ℕ) (p : List ℕ). nearIn k p (take 128 ws) (take 512 (drop 128 ws)) 0 0 farthest) (c .before .before .before .before .before .before .bare-key .ensures) (c .before .before .before .before .before .before .before .keys-of .ensures)) (c .before .if1 .taken)))
+
+full-name-requires : tie.Need-full-name-requires
+full-name-requires c κs =
+    let ws = c .before .before .before .before .before .before .before .before .args .table .now in
+    (c .before .before .before .before .before .before .before .before .pre .2, c .before .before .before .before .before .before .before .before .pre .1, up-range ws (c .before .before .before .before .before .before .before .before .pre .0) (c .before .before .before .before .before .before .before .before .args .scope) (c .before .before .before .before .before .before .before .before .pre .2) (firstOf (pathOf (c .before .before .before .before .before .before .before .before .args .path))) (c .before .nearest-value .result) (c .before .nearest-value .ensures ∙ ap₂ (λ (k : ℕ) (p : List ℕ). nearIn k p (take 128 ws) (take 512 (drop 128 ws)) 0 0 farthest) (c .before .before .before .before .before .bare-key .ensures) (c .before .before .before .before .before .before .keys-of .ensures)) (c .if1 .left) .0, up-range ws (c .before .before .before .before .before .before .before .before .pre .0) (c .before .before .before .before .before .before .before .before .args .scope) (c .before .before .before .before .before .before .before .before .pre .2) (firstOf (pathOf (c .before .before .before .before .before .before .before .before .args .path))) (c .before .nearest-value .result) (c .before .nearest-value .ensures ∙ ap₂ (λ (k : ℕ) (p : List ℕ). nearIn k p (take 128 ws) (take 512 (drop 128 ws)) 0 0 farthest) (c .before .before .before .before .before .bare-key .ensures) (c .before .before .before .before .before .before .keys-of .ensures)) (c .if1 .left) .1)
+
+cast-t21 : tie.Need-cast-t21
+cast-t21 c =
+    let ws = c .before .before .before .before .before .before .before .before .before .before .args .table .now in
+    omega (arith, up-range ws (c .before .before .before .before .before .before .before .before .before .before .pre .0) (c .before .before .before .before .before .before .before .before .before .before .args .scope) (c .before .before .before .before .before .before .before .before .before .before .pre .2) (firstOf (pathOf (c .before .before .before .before .before .before .before .before .before .before .args .path))) (c .before .before .before .nearest-value .result) (c .before .before .before .nearest-value .ensures ∙ ap₂ (λ (k : ℕ) (p : List ℕ). nearIn k p (take 128 ws) (take 512 (drop 128 ws)) 0 0 farthest) (c .before .before .before .before .before .before .before .bare-key .ensures) (c .before .before .before .before .before .before .before .before .keys-of .ensures)) (c .before .before .if1 .left) .2)
+
+sub-t13 : tie.Need-sub-t13
+sub-t13 c =
+    let ws = c .before .before .before .before .before .before .before .before .before .before .args .table .now in
+    up-range ws (c .before .before .before .before .before .before .before .before .before .before .pre .0) (c .before .before .before .before .before .before .before .before .before .before .args .scope) (c .before .before .before .before .before .before .before .before .before .before .pre .2) (firstOf (pathOf (c .before .before .before .before .before .before .before .before .before .before .args .path))) (c .before .before .before .nearest-value .result) (c .before .before .before .nearest-value .ensures ∙ ap₂ (λ (k : ℕ) (p : List ℕ). nearIn k p (take 128 ws) (take 512 (drop 128 ws)) 0 0 farthest) (c .before .before .before .before .before .before .before .bare-key .ensures) (c .before .before .before .before .before .before .before .before .keys-of .ensures)) (c .before .before .if1 .left) .0
+
+add-t23 : tie.Need-add-t23
+add-t23 c =
+    let ws = c .before .before .before .before .before .before .before .before .before .before .args .table .now in
+    let n = settled-count (c .before .before .before .before .before .before .before .before .before .before .args .scope) (c .before .before .before .before .before .before .before .before .before .before .pre .2) in omega arith
+
+returns-2 : tie.Need-returns-2
+returns-2 c =
+    let ws = c .before .before .before .before .before .before .before .before .before .before .args .table .now in
+    up-found ws (c .before .before .before .before .before .before .before .before .before .before .pre .0) (c .before .before .before .before .before .before .before .before .before .before .args .scope) (c .before .before .before .before .before .before .before .before .before .before .pre .2) (firstOf (pathOf (c .before .before .before .before .before .before .before .before .before .before .args .path))) (c .before .before .before .nearest-value .result) (c .before .before .before .nearest-value .ensures ∙ ap₂ (λ (k : ℕ) (p : List ℕ). nearIn k p (take 128 ws) (take 512 (drop 128 ws)) 0 0 farthest) (c .before .before .before .before .before .before .before .bare-key .ensures) (c .before .before .before .before .before .before .before .before .keys-of .ensures)) (c .before .before .if1 .left) (c .before .full-name .result) (c .before .full-name .ensures)
+
+pub search-up-spec : {M : Type 1} → statement M
+search-up-spec =
+    tie.close
+    (tie.spec
+    keys-of-requires
+    bare-key-requires
+    slice-aggregate-nearest-value
+    sub-nearest-value
+    part-nearest-value-start
+    part-nearest-value-end
+    array-share-prefix-keys
+    slice-aggregate-nearest-value-2
+    nearest-value-requires
+    not-found-requires
+    returns
+    full-name-requires
+    cast-t21
+    sub-t13
+    add-t23
+    returns-2)

@@ -1,0 +1,51 @@
+-- 24, then 26, then the search.
+use mathlib.Core.Path.{ap, sym, _∙_}
+use Rattle.name_object.specs.Component.{componentLimit}
+use Rattle.name_object.specs.Memory.{told}
+use Rattle.namespace.specs.Limits.{limits}
+use Rattle.namespace.proofs.SearchCalls.{search-bad, search-path}
+use borrow.Author.Needs.{needs}
+use Rattle.namespace.proofs.search.Statement.{statement}
+use Rattle.namespace.proofs.search.Tie as tie
+
+well-formed-requires : tie.Need-well-formed-requires
+well-formed-requires c κs = search needs
+
+is-path-requires : tie.Need-is-path-requires
+is-path-requires c κs = search needs
+
+search-requires : tie.Need-search-requires
+search-requires c κs =
+    (sym (c .before .before .before .well-formed .ensures) ∙ c .before .before .if1 .taken, sym (c .before .is-path .ensures) ∙ c .if2 .taken)
+
+not-found-requires : tie.Need-not-found-requires
+not-found-requires c κs = search needs
+
+not-found-requires-2 : tie.Need-not-found-requires-2
+not-found-requires-2 c κs = search needs
+
+returns : tie.Need-returns
+returns c = c .search .ensures
+
+returns-2 : tie.Need-returns-2
+returns-2 c =
+    let ws = c .before .before .before .before .before .before .args .table .now in
+    c .not-found .ensures ∙ ap (told componentLimit) (search-path limits ws (c .before .before .before .before .before .before .args .path) (c .before .before .before .before .before .before .args .starting-scope) (sym (c .before .before .before .before .well-formed .ensures) ∙ c .before .before .before .if1 .taken) (sym (c .before .before .is-path .ensures) ∙ c .before .if2 .left))
+
+returns-3 : tie.Need-returns-3
+returns-3 c =
+    let ws = c .before .before .before .before .args .table .now in
+    c .not-found2 .ensures ∙ ap (told componentLimit) (search-bad limits ws (c .before .before .before .before .args .path) (c .before .before .before .before .args .starting-scope) (sym (c .before .before .well-formed .ensures) ∙ c .before .if1 .left))
+
+pub search-spec : {M : Type 1} → statement M
+search-spec =
+    tie.close
+    (tie.spec
+    well-formed-requires
+    is-path-requires
+    search-requires
+    not-found-requires
+    not-found-requires-2
+    returns
+    returns-2
+    returns-3)

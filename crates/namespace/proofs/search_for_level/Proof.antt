@@ -1,0 +1,51 @@
+-- 24, then 26, then the search.
+use mathlib.Core.Path.{ap, sym, _∙_}
+use Rattle.name_object.specs.Component.{componentLimit}
+use Rattle.name_object.specs.Memory.{told}
+use Rattle.namespace.specs.Limits.{limits}
+use Rattle.namespace.proofs.SearchCalls.{level-bad, level-path}
+use borrow.Author.Needs.{needs}
+use Rattle.namespace.proofs.search_for_level.Statement.{statement}
+use Rattle.namespace.proofs.search_for_level.Tie as tie
+
+well-formed-requires : tie.Need-well-formed-requires
+well-formed-requires c κs = search needs
+
+is-path-requires : tie.Need-is-path-requires
+is-path-requires c κs = search needs
+
+search-for-level-requires : tie.Need-search-for-level-requires
+search-for-level-requires c κs =
+    (sym (c .before .before .before .well-formed .ensures) ∙ c .before .before .if1 .taken, sym (c .before .is-path .ensures) ∙ c .if2 .taken)
+
+no-level-requires : tie.Need-no-level-requires
+no-level-requires c κs = search needs
+
+no-level-requires-2 : tie.Need-no-level-requires-2
+no-level-requires-2 c κs = search needs
+
+returns : tie.Need-returns
+returns c = c .search-for-level .ensures
+
+returns-2 : tie.Need-returns-2
+returns-2 c =
+    let ws = c .before .before .before .before .before .before .args .table .now in
+    c .no-level .ensures ∙ ap (told componentLimit) (level-path limits ws (c .before .before .before .before .before .before .args .level-name) (c .before .before .before .before .before .before .args .starting-scope) (sym (c .before .before .before .before .well-formed .ensures) ∙ c .before .before .before .if1 .taken) (sym (c .before .before .is-path .ensures) ∙ c .before .if2 .left))
+
+returns-3 : tie.Need-returns-3
+returns-3 c =
+    let ws = c .before .before .before .before .args .table .now in
+    c .no-level2 .ensures ∙ ap (told componentLimit) (level-bad limits ws (c .before .before .before .before .args .level-name) (c .before .before .before .before .args .starting-scope) (sym (c .before .before .well-formed .ensures) ∙ c .before .if1 .left))
+
+pub search-for-level-spec : {M : Type 1} → statement M
+search-for-level-spec =
+    tie.close
+    (tie.spec
+    well-formed-requires
+    is-path-requires
+    search-for-level-requires
+    no-level-requires
+    no-level-requires-2
+    returns
+    returns-2
+    returns-3)

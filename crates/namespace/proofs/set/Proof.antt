@@ -1,0 +1,39 @@
+-- 24, then the object.
+use mathlib.Core.Path.{ap, sym, _∙_}
+use Rattle.namespace.specs.Limits.{limits}
+use Rattle.namespace.specs.Memory.{left}
+use Rattle.namespace.specs.Edits.{setValue}
+use Rattle.namespace.specs.Calls.{done, setCall}
+use Rattle.namespace.proofs.Calls.{mean-bad, mean-given, left-kept}
+use borrow.Author.Needs.{needs}
+use Rattle.namespace.proofs.set.Statement.{statement}
+use Rattle.namespace.proofs.set.Tie as tie
+
+well-formed-requires : tie.Need-well-formed-requires
+well-formed-requires c κs = search needs
+
+write-requires : tie.Need-write-requires
+write-requires c κs = sym (c .before .before .well-formed .ensures) ∙ c .before .if1 .taken
+
+same-length : tie.Need-same-length
+same-length c = search needs
+
+returns : tie.Need-returns
+unfolding setCall
+returns c =
+    let ws = c .before .before .before .before .before .before .before .before .args .table .now in
+    c .before .before .write .ensures ∙ ap (left limits ws) (mean-given limits ws (λ t. done (setValue t (c .before .before .before .before .before .before .before .before .args .handle .0) (c .before .before .before .before .before .before .before .before .args .value))) (sym (c .before .before .before .before .before .well-formed .ensures) ∙ c .before .before .before .before .if1 .taken))
+
+same-length-2 : tie.Need-same-length-2
+same-length-2 c = search needs
+
+returns-2 : tie.Need-returns-2
+unfolding setCall
+returns-2 c =
+    let ws = c .before .before .before .before .args .table .now in
+    left-kept limits ws _ _ _ (mean-bad limits ws (λ t. done (setValue t (c .before .before .before .before .args .handle .0) (c .before .before .before .before .args .value))) (sym (c .before .well-formed .ensures) ∙ c .if1 .left))
+
+pub set-spec : {M : Type 1} → statement M
+set-spec =
+    tie.close
+    (tie.spec well-formed-requires write-requires same-length returns same-length-2 returns-2)

@@ -1,0 +1,57 @@
+-- From the handle that the path gives.
+use mathlib.Core.Path.{ap, sym, _∙_}
+use Rattle.name_object.specs.Component.{componentLimit}
+use Rattle.namespace.specs.Limits.{limits}
+use Rattle.namespace.specs.Memory.{left}
+use Rattle.namespace.specs.Edits.{lookUp, setValue}
+use Rattle.namespace.specs.Calls.{done, settledKeys, handleSaid, getHandleCall, setByPathCall}
+use Rattle.namespace.proofs.Calls.{call-formed, then-given, then-refused, left-kept}
+use borrow.Author.Needs.{needs}
+use Rattle.namespace.proofs.set_by_path.Statement.{statement}
+use Rattle.namespace.proofs.set_by_path.Tie as tie
+
+get-handle-requires : tie.Need-get-handle-requires
+get-handle-requires c κs = search needs
+
+enum-known-found : tie.Need-enum-known-found
+enum-known-found c = search needs
+
+write-requires : tie.Need-write-requires
+unfolding getHandleCall
+write-requires c κs =
+    let ws = c .before .before .before .before .before .before .before .args .table .now in
+    call-formed limits ws (settledKeys componentLimit (c .before .before .before .before .before .before .before .args .path)) (λ t p. lookUp t p) (λ t h. done (setValue t h (c .before .before .before .before .before .before .before .args .value))) (c .before .before .found .given .0 .0 .0) (sym (ap handleSaid (c .before .before .found .given .1)) ∙ c .before .before .before .before .get-handle .ensures)
+
+enum-known-found-2 : tie.Need-enum-known-found-2
+enum-known-found-2 c = search needs
+
+same-length : tie.Need-same-length
+same-length c = search needs
+
+returns : tie.Need-returns
+unfolding getHandleCall setByPathCall
+returns c =
+    let ws = c .before .before .before .before .before .before .before .before .before .before .args .table .now in
+    c .before .before .write .ensures ∙ ap (left limits ws) (then-given limits ws (settledKeys componentLimit (c .before .before .before .before .before .before .before .before .before .before .args .path)) (λ t p. lookUp t p) (λ t h. done (setValue t h (c .before .before .before .before .before .before .before .before .before .before .args .value))) (c .before .before .before .before .before .found .given .0 .0 .0) (sym (ap handleSaid (c .before .before .before .before .before .found .given .1)) ∙ c .before .before .before .before .before .before .before .get-handle .ensures))
+
+same-length-2 : tie.Need-same-length-2
+same-length-2 c = search needs
+
+returns-2 : tie.Need-returns-2
+unfolding getHandleCall setByPathCall
+returns-2 c =
+    let ws = c .before .before .before .before .before .before .args .table .now in
+    left-kept limits ws _ _ _ (then-refused limits ws (settledKeys componentLimit (c .before .before .before .before .before .before .args .path)) (λ t p. lookUp t p) (λ t h. done (setValue t h (c .before .before .before .before .before .before .args .value))) _ _ (sym (ap handleSaid (c .before .found2 .given .1)) ∙ c .before .before .before .get-handle .ensures))
+
+pub set-by-path-spec : {M : Type 1} → statement M
+set-by-path-spec =
+    tie.close
+    (tie.spec
+    get-handle-requires
+    enum-known-found
+    write-requires
+    enum-known-found-2
+    same-length
+    returns
+    same-length-2
+    returns-2)
