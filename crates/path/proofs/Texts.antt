@@ -194,12 +194,13 @@ path-bare : textPath (0x5C ∷ []) ≡ gives (root ∷ [])
 unfolding textPath afterRoot
 path-bare = refl
 
-path-complete : {cs : List Component} {s : List ℕ} → Text cs s → textPath s ≡ gives cs
+-- by the grammar alone, whatever the limit
+pub path-complete : {cs : List Component} {s : List ℕ} → Text cs s → textPath s ≡ gives cs
 path-complete bare = path-bare
 path-complete (rooted {s = s} t) = path-rooted s (parts-first t .0) ∙ ap (consed root) (parts-complete t 1)
 path-complete (plain {s = s} t) = path-plain s (parts-first t) ∙ parts-complete t 0
 
-path-sound : (s : List ℕ) (cs : List Component) → textPath s ≡ gives cs → Text cs s
+pub path-sound : (s : List ℕ) (cs : List Component) → textPath s ≡ gives cs → Text cs s
 unfolding textPath Reads
 path-sound [] cs h = clash h
 path-sound (b ∷ s) cs h = go (eqb b 0x5C) refl h

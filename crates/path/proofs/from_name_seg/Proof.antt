@@ -1,3 +1,4 @@
+-- Four bytes that pass the test of a segment are pushed on the empty path.
 use mathlib.Core.Path.{_≡_, refl, sym, _∙_, ap}
 use lib.ListN.{getD}
 use Rattle.name_object.specs.Component.{seg}

@@ -1,3 +1,4 @@
+-- The test of 26, and then the walk and one step up.
 use mathlib.Core.Path.{_≡_, refl, sym, _∙_, ap}
 use lib.ListN.{length}
 use Rattle.name_object.specs.Component.{componentLimit}

@@ -1,3 +1,4 @@
+-- A refusal stands beside the empty path.
 use mathlib.Core.Path.{refl}
 use Rattle.path.proofs.Basics.{same-told}
 use borrow.Author.Needs.{needs}

@@ -1,3 +1,4 @@
+-- The test of 26 on the path and on the scope, and then the walk.
 use mathlib.Core.Path.{_≡_, refl, sym, _∙_, ap}
 use lib.ListN.{length}
 use Rattle.pkg_length.specs.Refusal.{andThen}

@@ -1,3 +1,4 @@
+-- The root is pushed on the empty path.
 use mathlib.Core.Path.{_≡_, refl, sym, _∙_, ap}
 use Rattle.name_object.specs.Component.{root}
 use Rattle.path.proofs.Flags.{push-first, count-none}

@@ -1,3 +1,4 @@
+-- The test of 26, and then the test itself.
 use mathlib.Core.Path.{_≡_, refl, sym, _∙_, ap}
 use mathlib.Core.Bool.{Bool}
 use lib.ListN.{length}

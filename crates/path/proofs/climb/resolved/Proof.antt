@@ -1,3 +1,4 @@
+-- Which of the three ways a path is resolved, by whether it and the scope start at the root.
 use mathlib.Core.Path.{_≡_, refl, sym, _∙_, ap}
 use Rattle.name_object.specs.Component.{componentLimit}
 use Rattle.name_object.specs.Memory.{pathOf}

@@ -1,3 +1,4 @@
+-- Up to 32 components memory shows them all.
 use mathlib.Core.Path.{_≡_, refl, sym, _∙_, ap}
 use Rattle.name_object.specs.Component.{componentLimit}
 use Rattle.name_object.specs.Memory.{nameOf}

@@ -1,3 +1,4 @@
+-- The four stores, where there is room for them.
 use mathlib.Core.Path.{_≡_, refl, sym, _∙_, ap}
 use borrow.Author.Tests.{lt-ltb, le-ltb}
 use Rattle.name_object.specs.Memory.{put4}

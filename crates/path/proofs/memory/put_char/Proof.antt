@@ -1,3 +1,4 @@
+-- The store, where there is room for it.
 use mathlib.Core.Path.{_≡_, refl, sym, _∙_, ap}
 use borrow.Author.Tests.{lt-ltb, le-ltb}
 use Rattle.path.specs.Inside.{placedChar}

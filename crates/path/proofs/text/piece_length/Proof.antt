@@ -1,3 +1,4 @@
+-- One answer for each kind of component.
 use mathlib.Core.Path.{_≡_, refl, sym, _∙_, ap}
 use borrow.Author.Tests.{eq-eqb, ne-eqb}
 use Rattle.path.specs.Inside.{pieceLength}

@@ -1,3 +1,4 @@
+-- A law for each way that a byte is taken.
 use mathlib.Core.Path.{_≡_, refl, sym, _∙_, ap}
 use Prim.Native.Nat.{_+_}
 use Rattle.path.specs.Inside.{Turns}

@@ -1,3 +1,4 @@
+-- A law for each way that a byte before a segment is taken.
 use mathlib.Core.Path.{_≡_, refl, sym, _∙_, ap}
 use mathlib.Core.List.{List, _∷_}
 use Prim.Native.Nat.{_+_}

@@ -1,3 +1,4 @@
+-- The tests in the definition's order.
 use mathlib.Core.Path.{_≡_, refl, sym, _∙_, ap}
 use borrow.Author.Tests.{eq-eqb, ne-eqb}
 use Rattle.name_object.specs.Memory.{bare}

@@ -1,3 +1,4 @@
+-- A lone component is a segment where its first byte is a lead.
 use mathlib.Core.Path.{_≡_, refl, sym, _∙_, ap}
 use Rattle.path.specs.Inside.{nameIn}
 use Rattle.path.proofs.Flags.{one-is, one-isnt}

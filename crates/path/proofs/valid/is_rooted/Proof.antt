@@ -1,3 +1,4 @@
+-- The first byte tells a root from all else.
 use Rattle.path.specs.Inside.{nameIn}
 use Rattle.path.proofs.Climbs.{abs-none, abs-some}
 use borrow.Author.Needs.{needs}

@@ -1,3 +1,4 @@
+-- The tests in the definition's order.
 use mathlib.Core.Path.{_≡_, refl, sym, _∙_, ap}
 use Rattle.name_object.specs.Component.{segOk}
 use borrow.Author.Needs.{needs}
