@@ -194,7 +194,126 @@ def wrong_lines():
     case("x" * 200001, "? %d line over 200000 bytes" % count())
 
 
-PARTS = [paper, limits_of_lengths, limits_of_components, limits_of_depth, limits_of_budget, wrong_lines]
+WORDS = 1153
+ROOT = 1 << 45
+
+
+def digest(words):
+    """the two digests of klem, stirred here anew"""
+    p, a, b = 2147483647, 1, 1
+    for w in words:
+        for half in (w >> 32, w & 0xFFFFFFFF):
+            a, b = (a * 65599 + half) % p, (b * 1000003 + half) % p
+    return a << 31 | b
+
+
+def segment(text):
+    return int.from_bytes(text.ljust(4, "_").encode(), "big")
+
+
+def table_words(levels, bindings, values):
+    """levels as (rank, type, bindings, segment), bindings as (segment, handle), in their order"""
+    ws = [r << 45 | t << 42 | n << 32 | s for r, t, n, s in levels]
+    ws += [0] * (128 - len(ws)) + [s << 32 | h for s, h in bindings]
+    return ws + [0] * (640 - len(ws)) + [len(values)] + values + [0] * (512 - len(values))
+
+
+def tables():
+    note("document 01: the table")
+    fresh = table_words([(1, 0, 0, 0)], [], [])
+    case("new", "ok")
+    case("digest", "ok %d" % digest(fresh))
+    case("level \\A 0", "ok")
+    case("level \\A.B 1", "ok")
+    case("value \\X 5", "ok handle 0")
+    case("value \\A.X 6", "ok handle 1")
+    words = table_words([(1, 0, 1, 0), (2, 0, 1, segment("A")), (3, 1, 0, segment("B"))], [(segment("X"), 0), (segment("X"), 1)], [5, 6])
+    case("digest", "ok %d" % digest(words))
+    case("search X \\A.B.C", "ok \\A___.X___ handle 1 asked 3")
+    case("search X \\A.B", "ok \\A___.X___ handle 1 asked 2")
+    case("search X \\A", "ok \\A___.X___ handle 1 asked 1")
+    case("search X \\", "ok \\X___ handle 0 asked 1")
+    case("search Y \\A.B", refused(16))
+    case("search X A", refused(11))
+    case("search X \\^A", refused(10))
+    case("search \\ \\", refused(13))
+    case("search ^X \\A.B", "ok \\A___.X___ handle 1 asked 1")
+    case("search-level B \\A.B.C", "ok \\A___.B___ asked 3")
+    case("search-level Z \\A", refused(15, 1))
+    case("search-level ^Z nowhere", refused(8, 0))
+    case("search-level ^Z A", "ok ^Z___ asked 0")
+    note("each refusal in its order, and a refused edit leaves the memory as it was")
+    for line, answer in [("level A 0", refused(11)), ("level \\^A 0", refused(10)), ("level \\ 5", "ok"), ("level \\Q.R 0", refused(15, 1)), ("level \\A.Q.R 0", refused(15, 2)),
+                         ("level \\A.B 5", "ok"), ("remove A", refused(11)), ("remove \\", refused(14)), ("remove \\A.Q", refused(15, 2)), ("remove \\Q.R", refused(15, 1)),
+                         ("value X 1", refused(11)), ("value \\ 1", refused(13)), ("value \\Q.X 1", refused(15, 1)), ("value \\A.X 1", refused(17)), ("handle X", refused(11)),
+                         ("handle \\", refused(13)), ("handle \\Q.X", refused(15, 1)), ("handle \\A.Y", refused(16)), ("get 2", refused(21)), ("set 2 1", refused(21)),
+                         ("value-at X A 1", refused(11)), ("value-at ^^X \\A 1", refused(10)), ("alias Y \\A Z", refused(16)), ("alias X \\A ^X", refused(17)),
+                         ("alias \\ \\A X", refused(13)), ("alias Y \\A \\", refused(13)), ("alias \\Q.Y \\A X", refused(15, 1))]:
+        case(line, answer)
+    case("digest", "ok %d" % digest(words))
+    case("alias Y \\A ^X", "ok handle 0")
+    case("handle \\A.Y", "ok handle 0")
+    case("value-at ^Z \\A.B 7", "ok handle 2")
+    case("set 2 8", "ok")
+    case("get 2", "ok 8")
+    note("removing frees levels and bindings; objects stay")
+    case("remove \\A", "ok")
+    case("get 1", "ok 6")
+    case("handle \\A.X", refused(15, 1))
+    case("digest", "ok %d" % digest(table_words([(1, 0, 1, 0)], [(segment("X"), 0)], [5, 6, 8])))
+
+
+def table_limits():
+    name = lambda i: "L%03d" % i
+    note("127, 128 and 129 levels")
+    case("new", "ok")
+    for i in range(127):
+        case("level \\%s 0" % name(i), "ok")
+    case("level \\%s 0" % name(127), refused(18))
+    case("level \\%s 3" % name(5), "ok")
+    case("remove \\%s" % name(0), "ok")
+    case("level \\%s 0" % name(127), "ok")
+    case("level \\%s 0" % name(0), refused(18))
+    note("511, 512 and 513 bindings and objects")
+    case("new", "ok")
+    case("level \\A 0", "ok")
+    for i in range(512):
+        case("value %s%s %d" % ("\\A." if i % 2 else "\\", name(i), i), "ok handle %d" % i)
+    case("value \\%s 1" % name(512), refused(19))
+    case("alias \\%s \\ %s" % (name(512), name(0)), refused(19))
+    case("remove \\A", "ok")
+    case("value \\%s 1" % name(512), refused(20))
+    case("alias \\%s \\ %s" % (name(512), name(0)), "ok handle 0")
+    note("31 and 32 components: the deepest level holds no binding, and a scope of 32 holds none")
+    case("new", "ok")
+    path = ""
+    for i in range(31):
+        path += (".D" if path else "\\D")
+        case("level %s 0" % path, "ok")
+    case("level %s.D 0" % path, refused(9))
+    case("value %s.X 0" % path, refused(9))
+    case("value \\X 0", "ok handle 0")
+    case("search X %s" % path, "ok \\X___ handle 0 asked 32")
+    note("memory that is damaged at each kind of word: 24, and it stays as it is")
+    case("new", "ok")
+    case("level \\A 1", "ok")
+    case("value \\A.X 9", "ok handle 0")
+    good = table_words([(1, 0, 0, 0), (2, 1, 1, segment("A"))], [(segment("X"), 0)], [9])
+    case("digest", "ok %d" % digest(good))
+    for index, word in [(0, 0), (0, ROOT + 1), (0, ROOT | 1 << 42), (1, good[1] + (1 << 45)), (1, good[1] | 6 << 42), (1, good[1] + (1 << 32)), (1, good[1] - (1 << 32)), (1, good[1] - 0x5F), (2, 1),
+                        (127, 1), (128, 0), (128, good[128] + 1), (128, good[128] | 0x80 << 56), (129, good[128]), (639, 1), (640, 0), (640, 513), (642, 1), (1152, 1)]:
+        case("poke %d %d" % (index, word), "ok")
+        bad = list(good)
+        bad[index] = word
+        for line in ("level \\B 0", "remove \\A", "value \\Y 1", "value-at Y \\ 1", "alias Y \\ \\A.X", "get 0", "set 0 1", "handle \\A.X", "search X \\A", "search-level A \\"):
+            case(line, refused(24))
+        case("digest", "ok %d" % digest(bad))
+        case("poke %d %d" % (index, good[index]), "ok")
+    case("digest", "ok %d" % digest(good))
+    case("search X \\A", "ok \\A___.X___ handle 0 asked 1")
+
+
+PARTS = [paper, limits_of_lengths, limits_of_components, limits_of_depth, limits_of_budget, tables, table_limits, wrong_lines]
 
 
 def main():

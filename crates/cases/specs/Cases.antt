@@ -5,11 +5,16 @@ use mathlib.Core.List.{List, [], _∷_, _++_}
 use lib.ListN.{replicate}
 use Rattle.pkg_length.specs.Refusal.{Answer, gives, refuses, andThen}
 use Rattle.pkg_length.specs.Pkg.{Pkg, pkgLength}
-use Rattle.name_object.specs.Component.{Component, componentLimit, spell}
+use Rattle.name_object.specs.Component.{Component, root, seg, componentLimit, spell}
 use Rattle.name_object.specs.Memory.{Named}
 use Rattle.name_object.specs.Name.{nameString}
 use Rattle.path.specs.Normal.{normal}
 use Rattle.path.specs.Text.{fromText}
+use Rattle.table.specs.Limits.{limits}
+use Rattle.table.specs.Tree.{Tree, keys}
+use Rattle.table.specs.Memory.{freshTree}
+use Rattle.table.specs.Edits.{addLevel, addValue}
+use Rattle.table.specs.Search.{Hit, searchUp}
 use Rattle.statement.specs.Refusal.{readBlock}
 use Rattle.statement.specs.Frames.{fresh}
 use Rattle.statement.specs.Meaning.{width}
@@ -28,6 +33,11 @@ nameShown (refuses n p) = refuses n p
 abbrev pub pathShown : Answer (List Component) → Answer (List ℕ)
 pathShown (gives cs) = gives (spell cs)
 pathShown (refuses n p) = refuses n p
+
+-- the handle, and the scopes asked
+abbrev pub hitShown : Answer (Named Hit) → Answer (List ℕ)
+hitShown (gives v) = gives (v .value .handle ∷ v .value .asked ∷ [])
+hitShown (refuses n p) = refuses n p
 
 -- Finished is 0, Returned 1 and its number, BreakOut 2, ContinueOut 3; then the units
 abbrev pub endShown : Answer Ended → ℕ → Answer (List ℕ)
@@ -49,6 +59,22 @@ name bytes = nameShown (nameString componentLimit bytes)
 
 abbrev pub normalised : List ℕ → Answer (List ℕ)
 normalised text = pathShown (andThen (fromText componentLimit text) (normal componentLimit))
+
+-- a segment of one letter
+abbrev pub letter : ℕ → Component
+letter a = seg a 0x5F 0x5F 0x5F
+
+-- levels `\A___` and `\A___.B___`; X___ bound at `\` (0) and at `\A___` (1)
+unfoldable pub paperTable : Answer Tree
+paperTable =
+    andThen (addLevel limits freshTree (keys (root ∷ letter 0x41 ∷ [])) 0) (λ t₁.
+    andThen (addLevel limits t₁ (keys (root ∷ letter 0x41 ∷ letter 0x42 ∷ [])) 0) (λ t₂.
+    andThen (addValue limits t₂ (keys (root ∷ letter 0x58 ∷ [])) 0) (λ e₁.
+    andThen (addValue limits (e₁ .tree) (keys (root ∷ letter 0x41 ∷ letter 0x58 ∷ [])) 0) (λ e₂.
+    gives (e₂ .tree)))))
+
+abbrev pub searched : List Component → Answer (List ℕ)
+searched scope = andThen paperTable (λ t. hitShown (searchUp limits t (letter 0x58) scope))
 
 -- from a fresh frame
 abbrev pub run : List ℕ → ℕ → Answer (List ℕ)
@@ -76,6 +102,7 @@ cases =
     ∷ mark (name (0x5E ∷ 0x00 ∷ [])) (gives (0x5E ∷ 0 ∷ 0 ∷ 0 ∷ []))
     ∷ marks (name (0x00 ∷ [])) (refuses 7 0) (name (0x2F ∷ 0x00 ∷ [])) (refuses 7 0)
     ∷ mark (normalised (0x5C ∷ 0x5E ∷ 0x49 ∷ 0x53 ∷ 0x41 ∷ 0x5F ∷ [])) (refuses 10 0)
+    ∷ mark (searched (root ∷ letter 0x41 ∷ letter 0x42 ∷ letter 0x43 ∷ [])) (gives (1 ∷ 3 ∷ []))
     ∷ mark (run [] 0) (gives (0 ∷ 0 ∷ []))
     ∷ mark (run (0x70 ∷ 0x0A ∷ 0x03 ∷ 0x60 ∷ 0xA2 ∷ 0x04 ∷ 0x60 ∷ 0x76 ∷ 0x60 ∷ 0xA4 ∷ 0x60 ∷ []) 100) (gives (1 ∷ 0 ∷ 10 ∷ []))
     ∷ mark (run (0xA0 ∷ 0x04 ∷ 0x00 ∷ 0xA4 ∷ 0x01 ∷ 0xA1 ∷ 0x03 ∷ 0xA4 ∷ 0x00 ∷ []) 100) (gives (1 ∷ 0 ∷ 2 ∷ []))

@@ -4,11 +4,11 @@ use crate::show;
 use crate::words;
 use crate::words::Hex;
 use crate::words::Number;
-use statement::frame::CellAnswer;
-use statement::frame::Frame;
 use statement::CheckAnswer;
 use statement::End;
 use statement::RunAnswer;
+use statement::frame::CellAnswer;
+use statement::frame::Frame;
 
 // check HEX
 pub fn check(line: &[u8], line_number: u64, bytes: &mut [u8], out: &mut [u8], at: usize) -> usize {
@@ -31,7 +31,11 @@ pub fn run(line: &[u8], line_number: u64, bytes: &mut [u8], out: &mut [u8], at: 
                 let f = cells(line);
                 if f.good {
                     let frame = f.frame;
-                    return ran(out, at, statement::run(words::part(bytes, 0, n), frame, budget));
+                    return ran(
+                        out,
+                        at,
+                        statement::run(words::part(bytes, 0, n), frame, budget),
+                    );
                 }
                 arg::wrong(out, at, line_number, b"bad cell")
             }

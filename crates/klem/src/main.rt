@@ -2,8 +2,8 @@
 mod arg;
 mod basic;
 mod block;
+mod calls;
 mod show;
-mod table;
 mod words;
 
 use libc::STDIN_FILENO;
@@ -26,7 +26,14 @@ enum About {
     Nothing,
 }
 
-fn answer(line: &[u8], line_number: u64, table: &mut [u64], bytes: &mut [u8], out: &mut [u8], at: usize) -> usize {
+fn answer(
+    line: &[u8],
+    line_number: u64,
+    table: &mut [u64],
+    bytes: &mut [u8],
+    out: &mut [u8],
+    at: usize,
+) -> usize {
     let w = words::word(line, 0);
     match subject(w, words::count(line)) {
         About::Bytes => on_bytes(line, w, line_number, bytes, out, at),
@@ -137,7 +144,14 @@ fn about_more(w: &[u8]) -> About {
     About::Nothing
 }
 
-fn on_bytes(line: &[u8], w: &[u8], line_number: u64, bytes: &mut [u8], out: &mut [u8], at: usize) -> usize {
+fn on_bytes(
+    line: &[u8],
+    w: &[u8],
+    line_number: u64,
+    bytes: &mut [u8],
+    out: &mut [u8],
+    at: usize,
+) -> usize {
     if words::same(w, b"pkg") {
         return basic::pkg(line, line_number, bytes, out, at);
     }
@@ -169,49 +183,71 @@ fn on_paths(line: &[u8], w: &[u8], line_number: u64, out: &mut [u8], at: usize) 
     basic::kind(line, line_number, out, at)
 }
 
-fn on_table(line: &[u8], w: &[u8], line_number: u64, table: &mut [u64], out: &mut [u8], at: usize) -> usize {
+fn on_table(
+    line: &[u8],
+    w: &[u8],
+    line_number: u64,
+    table: &mut [u64],
+    out: &mut [u8],
+    at: usize,
+) -> usize {
     if words::same(w, b"new") {
-        return table::fresh(table, out, at);
+        return calls::fresh(table, out, at);
     }
     if words::same(w, b"digest") {
-        return table::digest(table, out, at);
+        return calls::digest(table, out, at);
     }
     if words::same(w, b"get") {
-        return table::get(line, line_number, table, out, at);
+        return calls::get(line, line_number, table, out, at);
     }
     if words::same(w, b"search") {
-        return table::search(line, line_number, table, out, at);
+        return calls::search(line, line_number, table, out, at);
     }
     if words::same(w, b"search-level") {
-        return table::search_level(line, line_number, table, out, at);
+        return calls::search_level(line, line_number, table, out, at);
     }
-    table::handle(line, line_number, table, out, at)
+    calls::handle(line, line_number, table, out, at)
 }
 
-fn on_edits(line: &[u8], w: &[u8], line_number: u64, table: &mut [u64], out: &mut [u8], at: usize) -> usize {
+fn on_edits(
+    line: &[u8],
+    w: &[u8],
+    line_number: u64,
+    table: &mut [u64],
+    out: &mut [u8],
+    at: usize,
+) -> usize {
     if words::same(w, b"level") {
-        return table::level(line, line_number, table, out, at);
+        return calls::level(line, line_number, table, out, at);
     }
     if words::same(w, b"remove") {
-        return table::remove(line, line_number, table, out, at);
+        return calls::remove(line, line_number, table, out, at);
     }
     if words::same(w, b"value") {
-        return table::value(line, line_number, table, out, at);
+        return calls::value(line, line_number, table, out, at);
     }
     if words::same(w, b"value-at") {
-        return table::value_at(line, line_number, table, out, at);
+        return calls::value_at(line, line_number, table, out, at);
     }
     if words::same(w, b"alias") {
-        return table::alias(line, line_number, table, out, at);
+        return calls::alias(line, line_number, table, out, at);
     }
     if words::same(w, b"set") {
-        return table::set(line, line_number, table, out, at);
+        return calls::set(line, line_number, table, out, at);
     }
-    table::poke(line, line_number, table, out, at)
+    calls::poke(line, line_number, table, out, at)
 }
 
 // A whole line: empty ones and comments have no answer.
-fn answered(line: &[u8], long: bool, line_number: u64, table: &mut [u64], bytes: &mut [u8], out: &mut [u8], at: usize) -> usize {
+fn answered(
+    line: &[u8],
+    long: bool,
+    line_number: u64,
+    table: &mut [u64],
+    bytes: &mut [u8],
+    out: &mut [u8],
+    at: usize,
+) -> usize {
     if long {
         let o = arg::wrong(out, at, line_number, b"line over 200000 bytes");
         return show::byte(out, o, b'\n');
@@ -278,7 +314,14 @@ fn step(b: u8, s: At, table: &mut [u64], line: &mut [u8], bytes: &mut [u8], out:
     }
 }
 
-fn feed(chunk: &[u8], start: At, table: &mut [u64], line: &mut [u8], bytes: &mut [u8], out: &mut [u8]) -> At {
+fn feed(
+    chunk: &[u8],
+    start: At,
+    table: &mut [u64],
+    line: &mut [u8],
+    bytes: &mut [u8],
+    out: &mut [u8],
+) -> At {
     let mut s = start;
     let mut i = 0;
     while i < chunk.len() {

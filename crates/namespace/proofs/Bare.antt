@@ -16,10 +16,10 @@ use Rattle.name_object.proofs.Paths.{both, path-fine, name-whole}
 use Rattle.name_object.proofs.Memory.{push-one}
 use Rattle.path.proofs.Walks.{length-path, path-byte}
 use Rattle.name_object.proofs.Memory.{pop-last}
-use Rattle.namespace.specs.Tree.{number, key}
+use Rattle.table.specs.Tree.{number, key}
 use Rattle.namespace.specs.Search.{bare, firstOf}
 use Rattle.namespace.specs.Inside.{Settled, Bare}
-use Rattle.namespace.proofs.Shape.{clash}
+use Rattle.table.proofs.Shape.{clash}
 use Rattle.namespace.proofs.Keys.{SegAt, seg-number, settled-kept}
 
 -- the test of one bare segment

@@ -2,14 +2,17 @@
 use mathlib.Core.Path.{_≡_, refl, ap, sym, _∙_}
 use mathlib.Core.Bool.{Bool, true, false}
 use mathlib.Core.List.{List}
-use Prim.Native.Nat.{ℕ}
+use Prim.Native.Nat.{ℕ, _<_}
+use lib.ListN.{length, set, replicate}
+use borrow.Author.Tests.{eq-eqb, ne-eqb}
 use native.Mathlib.Omega.{arith}
 use Rattle.pkg_length.specs.Refusal.{Answer, gives, refuses, refused, andThen}
 use Rattle.pkg_length.specs.declared.AmlError.{AmlError}
-use Rattle.namespace.specs.Limits.{Limits}
-use Rattle.namespace.specs.Tree.{Tree}
-use Rattle.namespace.specs.Memory.{wellFormed, decode, means, Edited, Left, left}
-use Rattle.namespace.proofs.Objects.{means-formed, means-unformed}
+use Rattle.table.specs.Limits.{Limits}
+use Rattle.table.specs.Tree.{Tree}
+use Rattle.table.specs.Memory.{wellFormed, decode, means, size, Edited, Left, left}
+use Rattle.table.proofs.Objects.{means-formed, means-unformed, fresh-words}
+use Rattle.namespace.specs.Calls.{newCall}
 
 module _ {A B : Type 0} (m : Limits) (ws : List ℕ) (next : Tree → A → Answer B) (a : Answer A) where
   pub call-bad : wellFormed m ws ≡ false → refuses 24 0 ≡ andThen (means m ws) (λ t. andThen a (λ p. next t p))
@@ -63,3 +66,14 @@ module _ {A B C : Type 0} (m : Limits) (ws : List ℕ) (a : Answer A) (first : T
 -- a refusal leaves the words
 pub left-kept : {A : Type 0} (m : Limits) (ws : List ℕ) (n p : ℕ) (a : Answer (Edited A)) → refuses n p ≡ a → record { words = ws; said = refuses n p } ≡ left m ws a
 left-kept m ws n p a e = rw (← e)
+
+-- a fresh table
+module _ (m : Limits) (ws : List ℕ) where
+  pub new-made : 0 < m .levels → length ws ≡ size m
+      → record { words = set (replicate (length ws) 0) 0 35184372088832; said = gives tt } ≡ left m ws (newCall m ws)
+  unfolding newCall
+  new-made h e = rw (eq-eqb (length ws) (size m) e) (λ i. record { words = (ap (λ (n : ℕ). set (replicate n 0) 0 35184372088832) e ∙ fresh-words m h) i; said = gives tt })
+
+  pub new-refused : (length ws ≡ size m → ⊥) → record { words = ws; said = refuses 24 0 } ≡ left m ws (newCall m ws)
+  unfolding newCall
+  new-refused e = rw (ne-eqb (length ws) (size m) e)

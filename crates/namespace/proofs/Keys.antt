@@ -21,11 +21,13 @@ use Rattle.path.specs.declared.PathAnswer.{PathAnswer}
 use Rattle.path.proofs.Laws.{Kept, kept-view, normal-kept, resolved-kept}
 use Rattle.path.proofs.Walks.{length-path, path-byte}
 use Rattle.path.proofs.Answers.{said-done, said-refused}
-use Rattle.namespace.specs.Tree.{number, key, keys}
-use Rattle.namespace.specs.Valid.{segmentOk}
+use Rattle.table.specs.Tree.{number, key, keys}
+use Rattle.table.specs.Valid.{segmentOk}
 use Rattle.namespace.specs.Calls.{settled, settledKeys, resolvedKeys}
-use Rattle.namespace.specs.Inside.{Settled, Keyed}
-use Rattle.namespace.proofs.Shape.{clash}
+use Rattle.table.specs.Inside.{Keyed}
+use Rattle.namespace.specs.Inside.{Settled}
+use Rattle.table.proofs.Shape.{clash}
+use Rattle.table.proofs.Near.{length-keys}
 
 -- characters are bytes
 lead-low : (b : ℕ) → leadOk b ≡ true → b < 96
@@ -79,11 +81,6 @@ one-key a b c d p q r s h k e =
     let e₃ : c ≡ r = omega arith in
     let e₄ : d ≡ s = omega arith in
     λ i. seg (e₁ i) (e₂ i) (e₃ i) (e₄ i)
-
-pub length-keys : (cs : List Component) → length (keys cs) ≡ length cs
-unfolding keys
-length-keys [] = refl
-length-keys (c ∷ cs) = ap suc (length-keys cs)
 
 key-getD : (cs : List Component) (i : ℕ) → getD (keys cs) i 0 ≡ key (getD cs i up)
 unfolding keys

@@ -14,19 +14,21 @@ use Rattle.name_object.proofs.Paths.{name-whole}
 use Rattle.path.specs.Normal.{resolved}
 use Rattle.path.proofs.Walks.{length-path}
 use Rattle.path.proofs.Laws.{Kept}
-use Rattle.namespace.specs.Limits.{Limits, limits}
-use Rattle.namespace.specs.Tree.{Tree, key, keys}
-use Rattle.namespace.specs.Memory.{wellFormed, decode, means}
-use Rattle.namespace.specs.Edits.{lookUp}
+use Rattle.table.specs.Limits.{Limits, limits}
+use Rattle.table.specs.Tree.{Tree, key, keys}
+use Rattle.table.specs.Memory.{wellFormed, decode, means}
+use Rattle.table.specs.Edits.{lookUp}
 use Rattle.namespace.specs.Calls.{settled, settledKeys}
-use Rattle.namespace.specs.Search.{Found, Hit, bare, firstOf, named, searchUp, searchOnce, searchCall, levelUp, levelCall}
-use Rattle.namespace.specs.Inside.{nearIn, farthest, nearLevelIn, Settled, Bare}
-use Rattle.namespace.specs.declared.inner.Nearest.{Nearest}
-use Rattle.namespace.proofs.Objects.{whole, means-formed, means-unformed}
+use Rattle.table.specs.Search.{Found, Hit, named, searchUp, levelUp}
+use Rattle.namespace.specs.Search.{bare, firstOf, searchOnce, searchCall, levelCall}
+use Rattle.table.specs.Inside.{nearIn, farthest, nearLevelIn}
+use Rattle.namespace.specs.Inside.{Settled, Bare}
+use Rattle.table.specs.declared.inner.Nearest.{Nearest}
+use Rattle.table.proofs.Objects.{whole, means-formed, means-unformed}
 use Rattle.namespace.proofs.Keys.{settled-kept}
-use Rattle.namespace.proofs.Near.{Deep, nearF, foundOf, askValue, value-search, value-deep}
-use Rattle.namespace.proofs.NearWords.{nearestOf, near-held}
-use Rattle.namespace.proofs.NearLevels.{askChild, depthOf, level-held, level-search, level-deep}
+use Rattle.table.proofs.Near.{Deep, nearF, foundOf, askValue, value-search, value-deep}
+use Rattle.table.proofs.NearWords.{nearestOf, near-held}
+use Rattle.table.proofs.NearLevels.{askChild, depthOf, level-held, level-search, level-deep}
 
 pub same-told : {A : Type 0} {m n : AmlName} {a b : Answer A} → m ≡ n → a ≡ b → _≡_ {A = Told A} (record { memory = m; said = a }) (record { memory = n; said = b })
 same-told e f = λ i. record { memory = e i; said = f i }
@@ -43,7 +45,7 @@ module _ (ws : List ℕ) (ok : wellFormed limits ws ≡ true) (scope : AmlName) 
 
   -- values
   abbrev near : Answer (Deep ℕ)
-  near = nearF (λ l. Rattle.namespace.specs.Edits.handleIn (key c) (l .bindings)) (t .levels) (keys ns) 0 (refuses 0 0)
+  near = nearF (λ l. Rattle.table.specs.Edits.handleIn (key c) (l .bindings)) (t .levels) (keys ns) 0 (refuses 0 0)
 
   search-is : searchUp limits t c ns ≡ named c (λ f. record { handle = f .value; asked = f .asked }) (foundOf ns (length ns) (refuses 16 0) near)
   unfolding searchUp

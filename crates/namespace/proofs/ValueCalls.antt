@@ -15,20 +15,20 @@ use Rattle.name_object.specs.Memory.{pathOk, pathOf, pathIn}
 use Rattle.name_object.specs.declared.AmlName.{AmlName}
 use Rattle.name_object.proofs.Paths.{both}
 use Rattle.path.specs.Normal.{resolved}
-use Rattle.namespace.specs.Limits.{Limits}
-use Rattle.namespace.specs.Tree.{Binding, Forest, Tree, bound, keys}
-use Rattle.namespace.specs.Layout.{encode}
-use Rattle.namespace.specs.Memory.{wellFormed, decode, Edited, Left, left}
-use Rattle.namespace.specs.Edits.{alter, scopeOf, lastOf, withBinding, withLevels, withObjects, nextHandle, lookUp, bind, addValue, addAlias}
+use Rattle.table.specs.Limits.{Limits}
+use Rattle.table.specs.Tree.{Binding, Forest, Tree, bound, keys}
+use Rattle.table.specs.Layout.{encode}
+use Rattle.table.specs.Memory.{wellFormed, decode, Edited, Left, left}
+use Rattle.table.specs.Edits.{alter, scopeOf, lastOf, withBinding, withLevels, withObjects, nextHandle, lookUp, bind, addValue, addAlias}
 use Rattle.namespace.specs.Calls.{aliasAt, addAliasCall}
-use Rattle.namespace.specs.Inside.{spotIn, bindWords}
-use Rattle.namespace.specs.declared.inner.Spot.{Spot}
-use Rattle.namespace.proofs.Shape.{clash}
-use Rattle.namespace.proofs.Whole.{Whole}
-use Rattle.namespace.proofs.Objects.{whole, made-is, means-formed, means-unformed}
-use Rattle.namespace.proofs.Held.{bindings-room, bindings-full}
-use Rattle.namespace.proofs.BindCalls.{spot-refused, spot-bound, spot-live, spot-open, Open}
-use Rattle.namespace.proofs.BindWords.{bind-full, bind-room, bound-words, value-words}
+use Rattle.table.specs.Inside.{spotIn, bindWords}
+use Rattle.table.specs.declared.inner.Spot.{Spot}
+use Rattle.table.proofs.Shape.{clash}
+use Rattle.table.proofs.Whole.{Whole}
+use Rattle.table.proofs.Objects.{whole, made-is, means-formed, means-unformed}
+use Rattle.table.proofs.Held.{bindings-room, bindings-full}
+use Rattle.table.proofs.BindCalls.{spot-refused, spot-bound, spot-live, spot-open, Open}
+use Rattle.table.proofs.BindWords.{bind-full, bind-room, bound-words, value-words}
 
 module _ {A : Type 0} (m : Limits) (ws : List ℕ) where
   given : (us : List ℕ) (t : Tree) (x : A) (a : Answer (Edited A)) → a ≡ gives (record { tree = t; value = x }) → us ≡ encode m t → record { words = us; said = gives x } ≡ left m ws a

@@ -8,24 +8,15 @@ use Rattle.name_object.specs.Component.{Component}
 use Rattle.name_object.specs.Memory.{pathIn}
 use Rattle.name_object.specs.declared.AmlName.{AmlName}
 use Rattle.path.specs.Normal.{absolute, normal, resolved}
-use Rattle.namespace.specs.Limits.{Limits}
-use Rattle.namespace.specs.Tree.{Forest, none, level, Tree, keys}
-use Rattle.namespace.specs.Memory.{means, size, Edited, Left}
-use Rattle.namespace.specs.Edits.{addLevel, removeLevel, lookUp, addValue, addAlias, valueOf, setValue}
+use Rattle.table.specs.Limits.{Limits}
+use Rattle.table.specs.Tree.{Tree, keys}
+use Rattle.table.specs.Memory.{means, size, Edited, Left, done, freshTree}
+use Rattle.table.specs.Edits.{addLevel, removeLevel, lookUp, addValue, addAlias, valueOf, setValue}
 use Rattle.namespace.specs.declared.LevelType.{LevelType}
 use Rattle.namespace.specs.declared.LevelType.the-variants.{Scope, Device, Processor, PowerResource, ThermalZone, MethodLocals}
 use Rattle.namespace.specs.declared.EditAnswer.{EditAnswer}
 use Rattle.namespace.specs.declared.ValueAnswer.{ValueAnswer}
 use Rattle.namespace.specs.declared.HandleAnswer.{HandleAnswer}
-
--- the root, a Scope, and nothing else
-abbrev pub freshTree : Tree
-freshTree = record { levels = level 0 0 [] none none; objects = [] }
-
--- an edit that gives nothing but the tree
-abbrev pub done : Answer Tree → Answer (Edited (Unit {0}))
-done (gives t) = gives (record { tree = t; value = tt })
-done (refuses n p) = refuses n p
 
 -- a fresh table refuses only memory of a wrong length
 unfoldable pub newCall : Limits → List ℕ → Answer (Edited (Unit {0}))

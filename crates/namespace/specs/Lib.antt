@@ -1,9 +1,3 @@
-pub mod Limits
-pub mod Tree
-pub mod Layout
-pub mod Valid
-pub mod Memory
-pub mod Edits
 pub mod Calls
 pub mod Search
 pub mod Inside

@@ -3,9 +3,9 @@ ghost use mathlib.Core.Path.{_≡_};
 ghost use Prim.Native.Nat.{_+_};
 ghost use Rattle.name_object.specs.Component.{componentLimit};
 ghost use Rattle.name_object.specs.Memory.{told};
-ghost use Rattle.namespace.specs.Limits.{limits};
+ghost use Rattle.table.specs.Limits.{limits};
 ghost use Rattle.namespace.specs.Search.{searchTold, searchCall, levelTold, levelCall};
-ghost use Rattle.namespace.specs.Memory.{left};
+ghost use Rattle.table.specs.Memory.{left};
 ghost use Rattle.namespace.specs.Calls.{newCall, addLevelCall, removeLevelCall, addValueCall, addValueResolvedCall, addAliasCall, getCall, setCall, getHandleCall, getByPathCall, setByPathCall, editLeft, valueSaid, handleSaid, handleLeft};
 use name_object::AmlName;
 use path::PathSaid;
@@ -75,7 +75,7 @@ pub fn new(table: &mut [u64]) -> EditAnswer
     ensures { λ r. ⌜ editLeft (now (table .exit)) r ≡ left limits (now (table .entry)) (newCall limits (now (table .entry))) ⌝ }
 {
     if table.len() == 1153 {
-        inner::clear(table);
+        table::inner::clear(table);
         table[0] = 35184372088832;
         EditAnswer::Done
     } else {
@@ -87,7 +87,7 @@ pub fn new(table: &mut [u64]) -> EditAnswer
 pub fn add_level(table: &mut [u64], path: AmlName, typ: LevelType) -> EditAnswer
     ensures { λ r. ⌜ editLeft (now (table .exit)) r ≡ left limits (now (table .entry)) (addLevelCall limits (now (table .entry)) path typ) ⌝ }
 {
-    if inner::well_formed(table) {
+    if table::well_formed(table) {
         let found = inner::settled(path);
         let said = found.said;
         match said {
@@ -108,7 +108,7 @@ pub fn add_level(table: &mut [u64], path: AmlName, typ: LevelType) -> EditAnswer
 pub fn remove_level(table: &mut [u64], path: AmlName) -> EditAnswer
     ensures { λ r. ⌜ editLeft (now (table .exit)) r ≡ left limits (now (table .entry)) (removeLevelCall limits (now (table .entry)) path) ⌝ }
 {
-    if inner::well_formed(table) {
+    if table::well_formed(table) {
         let found = inner::settled(path);
         let said = found.said;
         match said {
@@ -129,7 +129,7 @@ pub fn remove_level(table: &mut [u64], path: AmlName) -> EditAnswer
 pub fn add_value(table: &mut [u64], path: AmlName, value: u64) -> HandleAnswer
     ensures { λ r. ⌜ handleLeft (now (table .exit)) r ≡ left limits (now (table .entry)) (addValueCall limits (now (table .entry)) path value) ⌝ }
 {
-    if inner::well_formed(table) {
+    if table::well_formed(table) {
         let found = inner::settled(path);
         let said = found.said;
         match said {
@@ -155,7 +155,7 @@ pub fn add_value_at_resolved_path(
 ) -> HandleAnswer
     ensures { λ r. ⌜ handleLeft (now (table .exit)) r ≡ left limits (now (table .entry)) (addValueResolvedCall limits (now (table .entry)) path scope value) ⌝ }
 {
-    if inner::well_formed(table) {
+    if table::well_formed(table) {
         let found = path::resolve(path, scope);
         let said = found.said;
         match said {
@@ -181,7 +181,7 @@ pub fn add_alias_at_resolved_path(
 ) -> HandleAnswer
     ensures { λ r. ⌜ handleLeft (now (table .exit)) r ≡ left limits (now (table .entry)) (addAliasCall limits (now (table .entry)) path scope target) ⌝ }
 {
-    if inner::well_formed(table) {
+    if table::well_formed(table) {
         if inner::are_paths(path, scope, target) {
             inner::resolve_alias(table, path, scope, target)
         } else {
@@ -195,7 +195,7 @@ pub fn add_alias_at_resolved_path(
 pub fn get(table: &[u64], handle: AmlHandle) -> ValueAnswer
     ensures { λ r. ⌜ valueSaid r ≡ getCall limits (now (table .entry)) (handle .0) ⌝ }
 {
-    if inner::well_formed(table) {
+    if table::well_formed(table) {
         inner::read(table, handle)
     } else {
         ValueAnswer::Refused(AmlError::BadTable)
@@ -206,7 +206,7 @@ pub fn get(table: &[u64], handle: AmlHandle) -> ValueAnswer
 pub fn set(table: &mut [u64], handle: AmlHandle, value: u64) -> EditAnswer
     ensures { λ r. ⌜ editLeft (now (table .exit)) r ≡ left limits (now (table .entry)) (setCall limits (now (table .entry)) (handle .0) value) ⌝ }
 {
-    if inner::well_formed(table) {
+    if table::well_formed(table) {
         inner::write(table, handle, value)
     } else {
         EditAnswer::Refused(AmlError::BadTable)
@@ -216,7 +216,7 @@ pub fn set(table: &mut [u64], handle: AmlHandle, value: u64) -> EditAnswer
 pub fn get_handle(table: &[u64], path: AmlName) -> HandleAnswer
     ensures { λ r. ⌜ handleSaid r ≡ getHandleCall limits (now (table .entry)) path ⌝ }
 {
-    if inner::well_formed(table) {
+    if table::well_formed(table) {
         let found = inner::settled(path);
         let said = found.said;
         match said {
@@ -258,7 +258,7 @@ pub fn set_by_path(table: &mut [u64], path: AmlName, value: u64) -> EditAnswer
 pub fn search(table: &[u64], path: AmlName, starting_scope: AmlName) -> SearchAnswer
     ensures { λ r. ⌜ searchTold r ≡ told componentLimit (searchCall limits (now (table .entry)) path «starting_scope») ⌝ }
 {
-    if inner::well_formed(table) {
+    if table::well_formed(table) {
         if path::inner::is_path(path) {
             inner::search(table, path, starting_scope)
         } else {
@@ -273,7 +273,7 @@ pub fn search(table: &[u64], path: AmlName, starting_scope: AmlName) -> SearchAn
 pub fn search_for_level(table: &[u64], level_name: AmlName, starting_scope: AmlName) -> LevelAnswer
     ensures { λ r. ⌜ levelTold r ≡ told componentLimit (levelCall limits (now (table .entry)) «level_name» «starting_scope») ⌝ }
 {
-    if inner::well_formed(table) {
+    if table::well_formed(table) {
         if path::inner::is_path(level_name) {
             inner::search_for_level(table, level_name, starting_scope)
         } else {

@@ -1,7 +1,7 @@
 -- 24, then 26 for each of the three, then the edit.
 use mathlib.Core.Path.{ap, sym, _∙_}
-use Rattle.namespace.specs.Limits.{limits}
-use Rattle.namespace.specs.Memory.{left}
+use Rattle.table.specs.Limits.{limits}
+use Rattle.table.specs.Memory.{left}
 use Rattle.namespace.specs.Calls.{addAliasCall}
 use Rattle.namespace.proofs.Calls.{left-kept}
 use Rattle.namespace.proofs.ValueCalls.{three-paths, alias-given, alias-paths, alias-bad}

@@ -5,10 +5,10 @@ use Prim.Native.Nat.{ℕ, _<_}
 use lib.ListN.{length}
 use lib.Seq.{length-take-le}
 use Rattle.name_object.specs.Component.{componentLimit}
-use Rattle.namespace.specs.Limits.{limits}
-use Rattle.namespace.specs.Memory.{decode, left}
-use Rattle.namespace.specs.Edits.{addLevel}
-use Rattle.namespace.specs.Calls.{settledKeys, done, addLevelCall, typeNumber}
+use Rattle.table.specs.Limits.{limits}
+use Rattle.table.specs.Memory.{decode, left, done}
+use Rattle.table.specs.Edits.{addLevel}
+use Rattle.namespace.specs.Calls.{settledKeys, addLevelCall, typeNumber}
 use Rattle.namespace.specs.declared.LevelType.{LevelType}
 use Rattle.namespace.specs.declared.LevelType.the-variants.{Scope, Device, Processor, PowerResource, ThermalZone, MethodLocals}
 use Rattle.namespace.proofs.Keys.{settled-kept, settled-count, kept-keyed, settled-done, settled-refused}

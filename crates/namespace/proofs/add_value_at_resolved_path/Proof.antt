@@ -5,9 +5,9 @@ use Prim.Native.Nat.{ℕ}
 use lib.ListN.{length}
 use lib.Seq.{length-take-le}
 use Rattle.name_object.specs.Component.{componentLimit}
-use Rattle.namespace.specs.Limits.{limits}
-use Rattle.namespace.specs.Memory.{decode, left}
-use Rattle.namespace.specs.Edits.{addValue}
+use Rattle.table.specs.Limits.{limits}
+use Rattle.table.specs.Memory.{decode, left}
+use Rattle.table.specs.Edits.{addValue}
 use Rattle.namespace.specs.Calls.{resolvedKeys, addValueResolvedCall}
 use Rattle.namespace.proofs.Keys.{settled-kept, settled-count, kept-keyed, joined-done, joined-refused}
 use Rattle.namespace.proofs.Calls.{call-bad, call-given, call-refused, left-kept}

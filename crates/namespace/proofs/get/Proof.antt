@@ -1,7 +1,7 @@
 -- 24, then the object.
 use mathlib.Core.Path.{sym, _∙_}
-use Rattle.namespace.specs.Limits.{limits}
-use Rattle.namespace.specs.Edits.{valueOf}
+use Rattle.table.specs.Limits.{limits}
+use Rattle.table.specs.Edits.{valueOf}
 use Rattle.namespace.specs.Calls.{getCall}
 use Rattle.namespace.proofs.Calls.{mean-bad, mean-given}
 use borrow.Author.Needs.{needs}

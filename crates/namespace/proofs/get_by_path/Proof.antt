@@ -1,8 +1,8 @@
 -- From the handle that the path gives.
 use mathlib.Core.Path.{ap, sym, _∙_}
 use Rattle.name_object.specs.Component.{componentLimit}
-use Rattle.namespace.specs.Limits.{limits}
-use Rattle.namespace.specs.Edits.{lookUp, valueOf}
+use Rattle.table.specs.Limits.{limits}
+use Rattle.table.specs.Edits.{lookUp, valueOf}
 use Rattle.namespace.specs.Calls.{settledKeys, handleSaid, getHandleCall, getByPathCall}
 use Rattle.namespace.proofs.Calls.{call-formed, then-given, then-refused}
 use borrow.Author.Needs.{needs}

@@ -4,8 +4,8 @@ use mathlib.Core.List.{List}
 use Prim.Native.Nat.{ℕ}
 use lib.ListN.{length, set, length-replicate}
 use Rattle.pkg_length.specs.Refusal.{gives}
-use Rattle.namespace.specs.Limits.{limits}
-use Rattle.namespace.proofs.Objects.{new-made, new-refused}
+use Rattle.table.specs.Limits.{limits}
+use Rattle.namespace.proofs.Calls.{new-made, new-refused}
 use borrow.Author.Needs.{needs}
 use native.Mathlib.Omega.{arith}
 use Rattle.namespace.proofs.new.Statement.{statement}

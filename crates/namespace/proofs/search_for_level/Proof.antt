@@ -2,7 +2,7 @@
 use mathlib.Core.Path.{ap, sym, _∙_}
 use Rattle.name_object.specs.Component.{componentLimit}
 use Rattle.name_object.specs.Memory.{told}
-use Rattle.namespace.specs.Limits.{limits}
+use Rattle.table.specs.Limits.{limits}
 use Rattle.namespace.proofs.SearchCalls.{level-bad, level-path}
 use borrow.Author.Needs.{needs}
 use Rattle.namespace.proofs.search_for_level.Statement.{statement}

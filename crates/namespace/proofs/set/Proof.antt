@@ -1,9 +1,9 @@
 -- 24, then the object.
 use mathlib.Core.Path.{ap, sym, _∙_}
-use Rattle.namespace.specs.Limits.{limits}
-use Rattle.namespace.specs.Memory.{left}
-use Rattle.namespace.specs.Edits.{setValue}
-use Rattle.namespace.specs.Calls.{done, setCall}
+use Rattle.table.specs.Limits.{limits}
+use Rattle.table.specs.Memory.{left, done}
+use Rattle.table.specs.Edits.{setValue}
+use Rattle.namespace.specs.Calls.{setCall}
 use Rattle.namespace.proofs.Calls.{mean-bad, mean-given, left-kept}
 use borrow.Author.Needs.{needs}
 use Rattle.namespace.proofs.set.Statement.{statement}

@@ -1,10 +1,10 @@
 -- From the handle that the path gives.
 use mathlib.Core.Path.{ap, sym, _∙_}
 use Rattle.name_object.specs.Component.{componentLimit}
-use Rattle.namespace.specs.Limits.{limits}
-use Rattle.namespace.specs.Memory.{left}
-use Rattle.namespace.specs.Edits.{lookUp, setValue}
-use Rattle.namespace.specs.Calls.{done, settledKeys, handleSaid, getHandleCall, setByPathCall}
+use Rattle.table.specs.Limits.{limits}
+use Rattle.table.specs.Memory.{left, done}
+use Rattle.table.specs.Edits.{lookUp, setValue}
+use Rattle.namespace.specs.Calls.{settledKeys, handleSaid, getHandleCall, setByPathCall}
 use Rattle.namespace.proofs.Calls.{call-formed, then-given, then-refused, left-kept}
 use borrow.Author.Needs.{needs}
 use Rattle.namespace.proofs.set_by_path.Statement.{statement}

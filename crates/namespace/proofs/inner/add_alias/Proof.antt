@@ -2,12 +2,12 @@
 use mathlib.Core.Path.{refl, ap, sym, _∙_}
 use Prim.Native.Nat.{_-_}
 use lib.ListN.{length, take, drop}
-use Rattle.namespace.specs.Limits.{limits}
+use Rattle.table.specs.Limits.{limits}
 use Rattle.namespace.specs.Calls.{handleSaid}
-use Rattle.namespace.specs.Inside.{spotIn}
-use Rattle.namespace.proofs.Objects.{long}
-use Rattle.namespace.proofs.BindCalls.{spot-open}
-use Rattle.namespace.proofs.BindWords.{bind-place, word-low}
+use Rattle.table.specs.Inside.{spotIn}
+use Rattle.table.proofs.Objects.{long}
+use Rattle.table.proofs.BindCalls.{spot-open}
+use Rattle.table.proofs.BindWords.{bind-place, word-low}
 use Rattle.namespace.proofs.ValueCalls.{aliased-aim, aliased-refused, aliased-bound, aliased-full, aliased}
 use borrow.Author.Needs.{needs}
 use native.Mathlib.Omega.{arith}

@@ -2,9 +2,9 @@
 use mathlib.Core.Path.{sym}
 use Prim.Native.Nat.{_-_}
 use lib.ListN.{length}
-use Rattle.namespace.specs.Limits.{limits}
-use Rattle.namespace.proofs.Objects.{long}
-use Rattle.namespace.proofs.LevelCalls.{length-ls, added-root, added-here, added-missing, added-place, added-new, added-full}
+use Rattle.table.specs.Limits.{limits}
+use Rattle.table.proofs.Objects.{long}
+use Rattle.table.proofs.LevelCalls.{length-ls, added-root, added-here, added-missing, added-place, added-new, added-full}
 use borrow.Author.Needs.{needs}
 use native.Mathlib.Omega.{arith}
 use Rattle.namespace.proofs.inner.add_level.Statement.{statement}

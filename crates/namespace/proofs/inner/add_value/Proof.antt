@@ -2,10 +2,10 @@
 use mathlib.Core.Path.{ap, _∙_}
 use Prim.Native.Nat.{_+_, _*_, _-_}
 use lib.ListN.{length, getD, length-set}
-use Rattle.namespace.specs.Limits.{limits}
-use Rattle.namespace.proofs.Objects.{long}
-use Rattle.namespace.proofs.BindCalls.{spot-open}
-use Rattle.namespace.proofs.BindWords.{bind-place, word-low, bind-length}
+use Rattle.table.specs.Limits.{limits}
+use Rattle.table.proofs.Objects.{long}
+use Rattle.table.proofs.BindCalls.{spot-open}
+use Rattle.table.proofs.BindWords.{bind-place, word-low, bind-length}
 use Rattle.namespace.proofs.ValueCalls.{valued-refused, valued-bound, valued-full, valued-none, valued}
 use borrow.Author.Needs.{needs}
 use native.Mathlib.Omega.{arith}

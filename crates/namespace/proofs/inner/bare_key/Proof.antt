@@ -1,7 +1,7 @@
 -- The four bytes as one number.
 use mathlib.Core.Path.{_≡_, sym, _∙_}
 use lib.ListN.{length}
-use Rattle.namespace.specs.Tree.{number}
+use Rattle.table.specs.Tree.{number}
 use Rattle.namespace.proofs.Bare.{bare-number}
 use borrow.Author.Needs.{needs}
 use Rattle.namespace.proofs.inner.bare_key.Statement.{statement}

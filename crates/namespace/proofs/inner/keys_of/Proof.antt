@@ -3,7 +3,7 @@ use mathlib.Core.Path.{_≡_, refl, ap, sym, _∙_}
 use Prim.Native.Nat.{ℕ, _-_, _≤_, _<_}
 use lib.ListN.{length, take, length-set}
 use Rattle.name_object.specs.Memory.{pathOf}
-use Rattle.namespace.specs.Tree.{number, keys as keysOf}
+use Rattle.table.specs.Tree.{number, keys as keysOf}
 use Rattle.namespace.proofs.Keys.{settled-count, keys-first, keys-turn, keys-whole}
 use borrow.Author.Needs.{needs}
 use native.Mathlib.Omega.{arith}

@@ -6,11 +6,11 @@ use lib.ListN.{length, take}
 use lib.Seq.{length-take-le}
 use Rattle.name_object.specs.Component.{componentLimit}
 use Rattle.name_object.specs.Memory.{told, pathOf}
-use Rattle.namespace.specs.Limits.{limits}
+use Rattle.table.specs.Limits.{limits}
 use Rattle.namespace.specs.Search.{firstOf}
-use Rattle.namespace.specs.Inside.{nearLevelIn}
+use Rattle.table.specs.Inside.{nearLevelIn}
 use Rattle.namespace.proofs.Keys.{settled-count}
-use Rattle.namespace.proofs.LevelCalls.{length-ls}
+use Rattle.table.proofs.LevelCalls.{length-ls}
 use Rattle.namespace.proofs.SearchCalls.{level-none, level-range, level-found}
 use borrow.Author.Needs.{needs}
 use native.Mathlib.Omega.{arith}

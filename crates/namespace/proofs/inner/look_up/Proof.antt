@@ -1,5 +1,5 @@
 -- By where the last segment is.
-use Rattle.namespace.specs.Limits.{limits}
+use Rattle.table.specs.Limits.{limits}
 use Rattle.namespace.proofs.ValueCalls.{looked-bound, looked-free, looked-refused}
 use borrow.Author.Needs.{needs}
 use native.Mathlib.Omega.{arith}

@@ -1,6 +1,6 @@
 -- One law for each answer.
-use Rattle.namespace.specs.Limits.{limits}
-use Rattle.namespace.proofs.Objects.{long, long-enough, get-found, get-none}
+use Rattle.table.specs.Limits.{limits}
+use Rattle.table.proofs.Objects.{long, long-enough, get-found, get-none}
 use borrow.Author.Needs.{needs}
 use native.Mathlib.Omega.{arith}
 use Rattle.namespace.proofs.inner.read.Statement.{statement}

@@ -1,8 +1,8 @@
 -- One law for each answer, by what the pass told.
 use mathlib.Core.Path.{sym}
-use Rattle.namespace.specs.Limits.{limits}
-use Rattle.namespace.proofs.Objects.{long}
-use Rattle.namespace.proofs.LevelCalls.{length-ls, removed-root, removed-before, removed-missing, from-is, removed-place, run-fits, moved-long, moved-range, moved}
+use Rattle.table.specs.Limits.{limits}
+use Rattle.table.proofs.Objects.{long}
+use Rattle.table.proofs.LevelCalls.{length-ls, removed-root, removed-before, removed-missing, from-is, removed-place, run-fits, moved-long, moved-range, moved}
 use borrow.Author.Needs.{needs}
 use native.Mathlib.Omega.{arith}
 use Rattle.namespace.proofs.inner.remove_level.Statement.{statement}

@@ -6,9 +6,9 @@ use lib.ListN.{length}
 use lib.Seq.{length-take-le}
 use Rattle.name_object.specs.Component.{componentLimit}
 use Rattle.name_object.specs.Memory.{pathOf}
-use Rattle.namespace.specs.Limits.{limits}
-use Rattle.namespace.specs.Memory.{decode, left}
-use Rattle.namespace.specs.Edits.{addAlias}
+use Rattle.table.specs.Limits.{limits}
+use Rattle.table.specs.Memory.{decode, left}
+use Rattle.table.specs.Edits.{addAlias}
 use Rattle.namespace.specs.Calls.{aliasAt}
 use Rattle.namespace.proofs.Keys.{settled-kept, settled-count, kept-keyed, against-done, against-refused}
 use Rattle.namespace.proofs.Calls.{left-kept}

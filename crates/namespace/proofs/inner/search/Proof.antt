@@ -2,7 +2,7 @@
 use mathlib.Core.Path.{ap, sym, _∙_}
 use Rattle.name_object.specs.Component.{componentLimit}
 use Rattle.name_object.specs.Memory.{told, pathOf}
-use Rattle.namespace.specs.Limits.{limits}
+use Rattle.table.specs.Limits.{limits}
 use Rattle.namespace.proofs.Keys.{settled-given, settled-lost}
 use Rattle.namespace.proofs.SearchCalls.{search-scope, search-bare, search-other}
 use borrow.Author.Needs.{needs}

@@ -4,7 +4,7 @@ use lib.ListN.{length}
 use Rattle.name_object.specs.Component.{componentLimit}
 use Rattle.name_object.specs.Memory.{told}
 use Rattle.name_object.proofs.Paths.{name-whole}
-use Rattle.namespace.specs.Limits.{limits}
+use Rattle.table.specs.Limits.{limits}
 use Rattle.namespace.proofs.SearchCalls.{same-told, level-same, level-other}
 use borrow.Author.Needs.{needs}
 use Rattle.namespace.proofs.inner.search_for_level.Statement.{statement}

@@ -5,9 +5,9 @@ use lib.Seq.{length-take-le}
 use Rattle.name_object.specs.Component.{componentLimit}
 use Rattle.name_object.specs.Memory.{told, pathOf}
 use Rattle.name_object.proofs.Paths.{name-whole}
-use Rattle.namespace.specs.Limits.{limits}
-use Rattle.namespace.specs.Memory.{decode}
-use Rattle.namespace.specs.Edits.{lookUp}
+use Rattle.table.specs.Limits.{limits}
+use Rattle.table.specs.Memory.{decode}
+use Rattle.table.specs.Edits.{lookUp}
 use Rattle.namespace.specs.Calls.{handleSaid}
 use Rattle.namespace.proofs.Keys.{settled-kept, settled-count, kept-keyed, against-done, against-refused}
 use Rattle.namespace.proofs.SearchCalls.{same-told, once-path, once-refused, once-found}

@@ -6,13 +6,13 @@ use lib.ListN.{length, take, drop}
 use lib.Seq.{length-take-le}
 use Rattle.name_object.specs.Component.{componentLimit}
 use Rattle.name_object.specs.Memory.{told, pathOf}
-use Rattle.namespace.specs.Limits.{limits}
+use Rattle.table.specs.Limits.{limits}
 use Rattle.namespace.specs.Search.{firstOf}
-use Rattle.namespace.specs.Inside.{nearIn, farthest}
-use Rattle.namespace.proofs.Objects.{long}
-use Rattle.namespace.proofs.BindCalls.{bindings-held}
+use Rattle.table.specs.Inside.{nearIn, farthest}
+use Rattle.table.proofs.Objects.{long}
+use Rattle.table.proofs.BindCalls.{bindings-held}
 use Rattle.namespace.proofs.Keys.{settled-count}
-use Rattle.namespace.proofs.LevelCalls.{length-ls}
+use Rattle.table.proofs.LevelCalls.{length-ls}
 use Rattle.namespace.proofs.SearchCalls.{up-none, up-range, up-found}
 use borrow.Author.Needs.{needs}
 use native.Mathlib.Omega.{arith}

@@ -1,0 +1,347 @@
+-- The search over the tree: going down the scope's levels and remembering the last that answers is asking scope after scope outwards.
+use mathlib.Core.Path.{_≡_, refl, ap, ap₂, sym, subst, _∙_}
+use mathlib.Core.Bool.{Bool, true, false}
+use mathlib.Core.Logic.{_⊎_, inl, inr, ⊎-elim}
+use mathlib.Core.List.{List, [], _∷_, _++_, append-assoc}
+use Prim.Native.Nat.{ℕ, zero, suc, _+_, _-_, _<_, _≤_}
+use native.Mathlib.Omega.{arith}
+use lib.Dec.{leb, ltb, eqb}
+use lib.ListN.{length, take, drop, getD, length-append}
+use lib.Seq.{take-at, getD-at, length-take-le}
+use borrow.Author.Tests.{lt-leb, lt-ltb, le-ltb, ltb-true, ltb-false, eqb-true, eqb-false, ne-eqb}
+use Rattle.pkg_length.specs.Refusal.{Answer, gives, refuses, andThen, pick}
+use Rattle.name_object.specs.Component.{Component}
+use Rattle.table.specs.Limits.{Limits}
+use Rattle.table.specs.Tree.{Binding, Forest, none, level, Tree, Level, key, keys}
+use Rattle.table.specs.Valid.{rising, countOk}
+use Rattle.table.specs.Edits.{levelAt, scopeOf, lastOf, hasLevel, handleIn, lookUp}
+use Rattle.table.specs.Search.{Found, orOn, outward, valueIn, levelIn}
+use Rattle.table.proofs.Shape.{clash, LevelFit, Valid, level-tests}
+use Rattle.table.proofs.Whole.{Whole}
+use Rattle.table.proofs.Slots.{BindingTests, binding-tests}
+
+pub length-keys : (cs : List Component) → length (keys cs) ≡ length cs
+unfolding keys
+length-keys [] = refl
+length-keys (c ∷ cs) = ap suc (length-keys cs)
+
+-- what was found, and how many components its scope has
+pub record Deep (A : Type 0) : Type 0 where
+  pub depth : ℕ
+  pub value : A
+
+-- a level of the scope that answers is nearer than what was found before
+abbrev pub closer : {A : Type 0} → ℕ → Answer A → Answer (Deep A) → Answer (Deep A)
+closer r (gives a) out = gives (record { depth = r; value = a })
+closer r (refuses n p) out = out
+
+-- down the keys of the scope, r of them behind
+unfoldable pub nearF : {A : Type 0} → (Level → Answer A) → Forest → List ℕ → ℕ → Answer (Deep A) → Answer (Deep A)
+nearF ask none p r out = out
+nearF ask (level s′ t b kids next) [] r out = out
+nearF ask (level s′ t b kids next) (x ∷ p) r out =
+    pick (eqb s′ x) (nearF ask kids p (suc r) (closer (suc r) (ask (record { bindings = b; children = kids })) out)) (nearF ask next (x ∷ p) r out)
+
+-- the innermost of the first n scopes that answers
+unfoldable pub best : {A : Type 0} → (Level → Answer A) → Forest → List ℕ → ℕ → Answer (Deep A) → ℕ → Answer (Deep A)
+best ask f p r out zero = out
+best ask f p r out (suc n) = closer (r + suc n) (andThen (levelAt r f (take (suc n) p)) ask) (best ask f p r out n)
+
+module _ {A : Type 0} (ask : Level → Answer A) where
+  best-none : (p : List ℕ) (r : ℕ) (out : Answer (Deep A)) (n : ℕ) → best ask none p r out n ≡ out
+  unfolding best levelAt
+  best-none p r out zero = refl
+  best-none p r out (suc n) = best-none p r out n
+
+  module _ (s′ t : ℕ) (b : List Binding) (kids next : Forest) (x : ℕ) where
+    best-match : (p : List ℕ) (r : ℕ) (out : Answer (Deep A)) (n : ℕ) → eqb s′ x ≡ true → n ≤ length p
+        → best ask (level s′ t b kids next) (x ∷ p) r out (suc n) ≡ best ask kids p (suc r) (closer (suc r) (ask (record { bindings = b; children = kids })) out) n
+    unfolding best levelAt
+    best-match p r out zero e l = rw e (ap (λ (k : ℕ). closer k (ask (record { bindings = b; children = kids })) out) (one r))
+      where
+        one : (r : ℕ) → r + 1 ≡ suc r
+        one r = omega arith
+    best-match [] r out (suc n) e l = absurd (omega arith)
+    best-match (y ∷ p) r out (suc n) e l =
+        λ i. closer (more r n i) (andThen (inner (take n p) i) ask) (best-match (y ∷ p) r out n e (omega arith) i)
+      where
+        more : (r n : ℕ) → r + suc (suc n) ≡ suc r + suc n
+        more r n = omega arith
+
+        inner : (q : List ℕ) → levelAt r (level s′ t b kids next) (x ∷ y ∷ q) ≡ levelAt (suc r) kids (y ∷ q)
+        inner q = rw e
+
+    best-skip : (p : List ℕ) (r : ℕ) (out : Answer (Deep A)) (n : ℕ) → eqb s′ x ≡ false → best ask (level s′ t b kids next) (x ∷ p) r out n ≡ best ask next (x ∷ p) r out n
+    unfolding best
+    best-skip p r out zero e = refl
+    best-skip p r out (suc n) e = ap₂ (λ (a : Answer Level) (o : Answer (Deep A)). closer (r + suc n) (andThen a ask) o) (skipped (take n p)) (best-skip p r out n e)
+      where
+        skipped : (q : List ℕ) → levelAt r (level s′ t b kids next) (x ∷ q) ≡ levelAt r next (x ∷ q)
+        skipped [] = unfold levelAt in rw e
+        skipped (y ∷ q) = unfold levelAt in rw e
+
+  near-best : (f : Forest) (p : List ℕ) (r : ℕ) (out : Answer (Deep A)) → nearF ask f p r out ≡ best ask f p r out (length p)
+  unfolding nearF
+  near-best none p r out = sym (best-none p r out (length p))
+  near-best (level s′ t b kids next) [] r out = unfold best in refl
+  near-best (level s′ t b kids next) (x ∷ p) r out =
+      go (eqb s′ x) refl (near-best kids p (suc r) (closer (suc r) (ask (record { bindings = b; children = kids })) out)) (near-best next (x ∷ p) r out)
+    where
+      go : (e : Bool) → eqb s′ x ≡ e
+          → nearF ask kids p (suc r) (closer (suc r) (ask (record { bindings = b; children = kids })) out) ≡ best ask kids p (suc r) (closer (suc r) (ask (record { bindings = b; children = kids })) out) (length p)
+          → nearF ask next (x ∷ p) r out ≡ best ask next (x ∷ p) r out (suc (length p))
+          → pick e (nearF ask kids p (suc r) (closer (suc r) (ask (record { bindings = b; children = kids })) out)) (nearF ask next (x ∷ p) r out) ≡ best ask (level s′ t b kids next) (x ∷ p) r out (suc (length p))
+      go true e i l = i ∙ sym (best-match s′ t b kids next x p r out (length p) e (omega arith))
+      go false e i l = l ∙ sym (best-skip s′ t b kids next x p r out (suc (length p)) e)
+
+  -- what is found was given by a level of the scope
+  pub record Hold (f : Forest) (p : List ℕ) (r : ℕ) (d : Deep A) (n : ℕ) : Type 0 where
+    pub level : Level
+    pub at : levelAt r f (take (d .depth - r) p) ≡ gives level
+    pub gave : ask level ≡ gives (d .value)
+    pub far : r < d .depth
+    pub near : d .depth ≤ r + n
+
+  best-hold : (f : Forest) (p : List ℕ) (r n : ℕ) (d : Deep A) → best ask f p r (refuses 0 0) n ≡ gives d → Hold f p r d n
+  unfolding best
+  best-hold f p r zero d e = absurd (let z : _≡_ {A = ℕ} 0 1 = cc in omega arith)
+  best-hold f p r (suc n) d e = go (levelAt r f (take (suc n) p)) refl (best-hold f p r n d) e
+    where
+      wider : Hold f p r d n → Hold f p r d (suc n)
+      wider h = record { level = h .level; at = h .at; gave = h .gave; far = h .far; near = omega (arith, h .near) }
+
+      asked : (l : Level) (a : Answer A) → levelAt r f (take (suc n) p) ≡ gives l → ask l ≡ a → (best ask f p r (refuses 0 0) n ≡ gives d → Hold f p r d n)
+          → closer (r + suc n) a (best ask f p r (refuses 0 0) n) ≡ gives d → Hold f p r d (suc n)
+      asked l (gives v) x y i e =
+          let q : r + suc n ≡ d .depth = ap (λ (y : Answer (Deep A)). depthIn y) e in
+          let u : v ≡ d .value = cc in
+          record { level = l; at = ap (λ (k : ℕ). levelAt r f (take k p)) (less r (suc n) (d .depth) q) ∙ x; gave = y ∙ ap gives u; far = omega arith; near = omega arith }
+        where
+          depthIn : Answer (Deep A) → ℕ
+          depthIn (gives w) = w .depth
+          depthIn (refuses a b) = 0
+
+          less : (r n k : ℕ) → r + n ≡ k → k - r ≡ n
+          less r n k h = omega arith
+      asked l (refuses a b) x y i e = wider (i e)
+
+      go : (a : Answer Level) → levelAt r f (take (suc n) p) ≡ a → (best ask f p r (refuses 0 0) n ≡ gives d → Hold f p r d n)
+          → closer (r + suc n) (andThen a ask) (best ask f p r (refuses 0 0) n) ≡ gives d → Hold f p r d (suc n)
+      go (gives l) x i e = asked l (ask l) x refl i e
+      go (refuses a b) x i e = wider (i e)
+
+  pub near-hold : (f : Forest) (p : List ℕ) (d : Deep A) → nearF ask f p 0 (refuses 0 0) ≡ gives d → Hold f p 0 d (length p)
+  near-hold f p d e = best-hold f p 0 (length p) d (sym (near-best f p 0 (refuses 0 0)) ∙ e)
+
+-- two answers are alike: the same value, or both refuse
+abbrev pub Alike : {A : Type 0} → Answer A → Answer A → Type 0
+Alike (gives a) (gives b) = a ≡ b
+Alike (gives a) (refuses n p) = ⊥
+Alike (refuses m q) (gives b) = ⊥
+Alike (refuses m q) (refuses n p) = Unit {0}
+
+pub alike-refl : {A : Type 0} (a : Answer A) → Alike a a
+alike-refl (gives a) = refl
+alike-refl (refuses n p) = tt
+
+-- what the search answers from what was found
+abbrev pub foundOf : {A : Type 0} → List Component → ℕ → Answer (Found A) → Answer (Deep A) → Answer (Found A)
+foundOf ns total otherwise (gives d) = gives (record { scope = take (d .depth) ns; value = d .value; asked = total - d .depth + 1 })
+foundOf ns total otherwise (refuses n p) = otherwise
+
+module _ {A : Type 0} (asks : List Component → Answer A) (ask : Level → Answer A) (otherwise : Answer (Found A)) (f : Forest) (ns : List Component)
+    (same : (n : ℕ) → 0 < n → n ≤ length ns → Alike (asks (take n ns)) (andThen (levelAt 0 f (take n (keys ns))) ask)) where
+  outward-best : (n k : ℕ) → n ≤ length ns → outward asks otherwise ns n k ≡ foundOf ns (k + n) otherwise (best ask f (keys ns) 0 (refuses 0 0) n)
+  unfolding outward best
+  outward-best zero k l = refl
+  outward-best (suc n) k l = go (asks (take (suc n) ns)) (andThen (levelAt 0 f (take (suc n) (keys ns))) ask) (same (suc n) (omega arith) l) (outward-best n (suc k) (omega arith))
+    where
+      go : (a b : Answer A) → Alike a b → outward asks otherwise ns n (suc k) ≡ foundOf ns (suc k + n) otherwise (best ask f (keys ns) 0 (refuses 0 0) n)
+          → orOn a (take (suc n) ns) (suc k) (outward asks otherwise ns n (suc k)) ≡ foundOf ns (k + suc n) otherwise (closer (0 + suc n) b (best ask f (keys ns) 0 (refuses 0 0) n))
+      go (gives a) (gives b) h i =
+          λ j. gives (record { scope = take (first n j) ns; value = h j; asked = count k n j })
+        where
+          first : (n : ℕ) → suc n ≡ 0 + suc n
+          first n = omega arith
+
+          count : (k n : ℕ) → suc k ≡ k + suc n - (0 + suc n) + 1
+          count k n = omega arith
+      go (gives a) (refuses x y) h i = absurd h
+      go (refuses x y) (gives b) h i = absurd h
+      go (refuses x y) (refuses u v) h i = i ∙ ap (λ (m : ℕ). foundOf ns m otherwise (best ask f (keys ns) 0 (refuses 0 0) n)) (sums k n)
+        where
+          sums : (k n : ℕ) → suc k + n ≡ k + suc n
+          sums k n = omega arith
+
+  -- the search is what going down finds
+  pub outward-near : outward asks otherwise ns (length ns) 0 ≡ foundOf ns (length ns) otherwise (nearF ask f (keys ns) 0 (refuses 0 0))
+  outward-near =
+      outward-best (length ns) 0 (omega arith)
+      ∙ ap₂ (λ (n : ℕ) (d : Answer (Deep A)). foundOf ns n otherwise d) (zero-plus (length ns))
+      (ap (best ask f (keys ns) 0 (refuses 0 0)) (sym (length-keys ns)) ∙ sym (near-best ask f (keys ns) 0 (refuses 0 0)))
+    where
+      zero-plus : (n : ℕ) → 0 + n ≡ n
+      zero-plus n = omega arith
+
+-- keys of a scope with a segment behind it
+pub keys-append : (xs ys : List Component) → keys (xs ++ ys) ≡ keys xs ++ keys ys
+unfolding keys
+keys-append [] ys = refl
+keys-append (x ∷ xs) ys = ap (λ (l : List ℕ). key x ∷ l) (keys-append xs ys)
+
+pub keys-take : (n : ℕ) (cs : List Component) → keys (take n cs) ≡ take n (keys cs)
+unfolding keys
+keys-take zero cs = refl
+keys-take (suc n) [] = refl
+keys-take (suc n) (c ∷ cs) = ap (λ (l : List ℕ). key c ∷ l) (keys-take n cs)
+
+-- a level of the deepest rank holds nothing
+module _ (limit made : ℕ) where
+  pub deep-bindings : (f : Forest) (r lo n : ℕ) (p : List ℕ) (l : Level) → Valid limit made (suc r) lo f → levelAt n f p ≡ gives l → r + length p ≡ limit → l .bindings ≡ []
+  unfolding levelAt
+  deep-bindings none r lo n p l v e h = absurd (let z : _≡_ {A = ℕ} 0 1 = cc in omega arith)
+  deep-bindings (level s′ t b kids next) r lo n [] l v e h = absurd (let z : _≡_ {A = ℕ} 0 1 = cc in omega arith)
+  deep-bindings (level s′ t b kids next) r lo n (x ∷ []) l v e h = go (eqb s′ x) (deep-bindings next r (suc s′) n (x ∷ []) l (v .2)) e
+    where
+      none-left : (b : List Binding) → length b ≡ 0 → b ≡ []
+      none-left [] h = refl
+      none-left (y ∷ b) h = absurd (omega arith)
+
+      counted : countOk limit (suc r) (length b) ≡ true → length b ≡ 0
+      counted k = eqb-true (length b) 0 (sym (rw (le-ltb (suc r) limit (omega arith))) ∙ k)
+
+      go : (y : Bool) → (levelAt n next (x ∷ []) ≡ gives l → r + 1 ≡ limit → l .bindings ≡ []) → pick y (gives (record { bindings = b; children = kids })) (levelAt n next (x ∷ [])) ≡ gives l → l .bindings ≡ []
+      go true i e =
+          let d : record { bindings = b; children = kids } ≡ l = cc in
+          sym (ap (λ (m : Level). m .bindings) d) ∙ none-left b (counted (level-tests limit (suc r) lo s′ t (length b) (v .0 .ok) .counted))
+      go false i e = i e h
+  deep-bindings (level s′ t b kids next) r lo n (x ∷ y ∷ p) l v e h = go (eqb s′ x) (deep-bindings kids (suc r) 0 (suc n) (y ∷ p) l (v .1)) (deep-bindings next r (suc s′) n (x ∷ y ∷ p) l (v .2)) e
+    where
+      go : (z : Bool) → (levelAt (suc n) kids (y ∷ p) ≡ gives l → suc r + suc (length p) ≡ limit → l .bindings ≡ []) → (levelAt n next (x ∷ y ∷ p) ≡ gives l → r + suc (suc (length p)) ≡ limit → l .bindings ≡ [])
+          → pick z (levelAt (suc n) kids (y ∷ p)) (levelAt n next (x ∷ y ∷ p)) ≡ gives l → l .bindings ≡ []
+      go true i j e = i e (omega arith)
+      go false i j e = j e h
+
+  pub deep-children : (f : Forest) (r lo n : ℕ) (p : List ℕ) (l : Level) → Valid limit made (suc r) lo f → levelAt n f p ≡ gives l → r + length p ≡ limit → l .children ≡ none
+  unfolding levelAt
+  deep-children none r lo n p l v e h = absurd (let z : _≡_ {A = ℕ} 0 1 = cc in omega arith)
+  deep-children (level s′ t b kids next) r lo n [] l v e h = absurd (let z : _≡_ {A = ℕ} 0 1 = cc in omega arith)
+  deep-children (level s′ t b kids next) r lo n (x ∷ []) l v e h = go (eqb s′ x) (deep-children next r (suc s′) n (x ∷ []) l (v .2)) e
+    where
+      childless : (g : Forest) → Valid limit made (suc (suc r)) 0 g → g ≡ none
+      childless none w = refl
+      childless (level s u c ks ne) w = absurd (omega (arith, w .0 .shallow))
+
+      go : (y : Bool) → (levelAt n next (x ∷ []) ≡ gives l → r + 1 ≡ limit → l .children ≡ none) → pick y (gives (record { bindings = b; children = kids })) (levelAt n next (x ∷ [])) ≡ gives l → l .children ≡ none
+      go true i e = let d : record { bindings = b; children = kids } ≡ l = cc in sym (ap (λ (m : Level). m .children) d) ∙ childless kids (v .1)
+      go false i e = i e h
+  deep-children (level s′ t b kids next) r lo n (x ∷ y ∷ p) l v e h = go (eqb s′ x) (deep-children kids (suc r) 0 (suc n) (y ∷ p) l (v .1)) (deep-children next r (suc s′) n (x ∷ y ∷ p) l (v .2)) e
+    where
+      go : (z : Bool) → (levelAt (suc n) kids (y ∷ p) ≡ gives l → suc r + suc (length p) ≡ limit → l .children ≡ none) → (levelAt n next (x ∷ y ∷ p) ≡ gives l → r + suc (suc (length p)) ≡ limit → l .children ≡ none)
+          → pick z (levelAt (suc n) kids (y ∷ p)) (levelAt n next (x ∷ y ∷ p)) ≡ gives l → l .children ≡ none
+      go true i j e = i e (omega arith)
+      go false i j e = j e h
+
+  -- a level that is there has its bindings in order
+  pub level-ordered : (f : Forest) (r lo n : ℕ) (p : List ℕ) (l : Level) → Valid limit made r lo f → levelAt n f p ≡ gives l → rising made 0 (l .bindings) ≡ true
+  unfolding levelAt
+  level-ordered none r lo n p l v e = absurd (let z : _≡_ {A = ℕ} 0 1 = cc in omega arith)
+  level-ordered (level s′ t b kids next) r lo n [] l v e = absurd (let z : _≡_ {A = ℕ} 0 1 = cc in omega arith)
+  level-ordered (level s′ t b kids next) r lo n (x ∷ []) l v e = go (eqb s′ x) (level-ordered next r (suc s′) n (x ∷ []) l (v .2)) e
+    where
+      go : (y : Bool) → (levelAt n next (x ∷ []) ≡ gives l → rising made 0 (l .bindings) ≡ true) → pick y (gives (record { bindings = b; children = kids })) (levelAt n next (x ∷ [])) ≡ gives l
+          → rising made 0 (l .bindings) ≡ true
+      go true i e = let d : record { bindings = b; children = kids } ≡ l = cc in subst (λ (m : Level). rising made 0 (m .bindings) ≡ true) d (v .0 .ordered)
+      go false i e = i e
+  level-ordered (level s′ t b kids next) r lo n (x ∷ y ∷ p) l v e = go (eqb s′ x) (level-ordered kids (suc r) 0 (suc n) (y ∷ p) l (v .1)) (level-ordered next r (suc s′) n (x ∷ y ∷ p) l (v .2)) e
+    where
+      go : (z : Bool) → (levelAt (suc n) kids (y ∷ p) ≡ gives l → rising made 0 (l .bindings) ≡ true) → (levelAt n next (x ∷ y ∷ p) ≡ gives l → rising made 0 (l .bindings) ≡ true)
+          → pick z (levelAt (suc n) kids (y ∷ p)) (levelAt n next (x ∷ y ∷ p)) ≡ gives l → rising made 0 (l .bindings) ≡ true
+      go true i j e = i e
+      go false i j e = j e
+
+-- what is found was handed out
+pub handle-live : (made lo s h : ℕ) (b : List Binding) → rising made lo b ≡ true → handleIn s b ≡ gives h → h < made
+unfolding handleIn
+handle-live made lo s h [] r e = absurd (let z : _≡_ {A = ℕ} 0 1 = cc in omega arith)
+handle-live made lo s h (b ∷ bs) r e =
+    let t = binding-tests made lo b bs r in
+    go (eqb (b .segment) s) (t .live) (handle-live made (suc (b .segment)) s h bs (t .later)) e
+  where
+    go : (x : Bool) → b .handle < made → (handleIn s bs ≡ gives h → h < made) → pick x (gives (b .handle)) (handleIn s bs) ≡ gives h → h < made
+    go true l i e = let d : b .handle ≡ h = cc in omega arith
+    go false l i e = i e
+
+-- values: what a scope answers is what its level does
+module _ (m : Limits) (t : Tree) (w : Whole m t) (c : Component) (ns : List Component) (room : length ns ≤ m .components) where
+  abbrev pub askValue : Level → Answer ℕ
+  askValue l = handleIn (key c) (l .bindings)
+
+  module _ (n : ℕ) (z : 0 < n) (h : n ≤ length ns) where
+    len : length (take n ns) ≡ n
+    len = length-take-le n ns h
+
+    with-last : keys (take n ns ++ (c ∷ [])) ≡ take n (keys ns) ++ (key c ∷ [])
+    unfolding keys
+    with-last = keys-append (take n ns) (c ∷ []) ∙ ap (λ (l : List ℕ). l ++ (key c ∷ [])) (keys-take n ns)
+
+    front-length : length (take n (keys ns)) ≡ n
+    front-length = length-take-le n (keys ns) (omega (arith, length-keys ns))
+
+    one-more : length (take n (keys ns) ++ (key c ∷ [])) ≡ suc n
+    one-more = length-append (take n (keys ns)) (key c ∷ []) ∙ plus (length (take n (keys ns))) n front-length
+      where
+        plus : (k n : ℕ) → k ≡ n → k + 1 ≡ suc n
+        plus k n e = omega arith
+
+    scope-is : scopeOf (take n (keys ns) ++ (key c ∷ [])) ≡ take n (keys ns)
+    scope-is = take-at (take n (keys ns)) (key c ∷ []) (length (take n (keys ns) ++ (key c ∷ [])) - 1) (omega (arith, one-more, front-length))
+
+    last-is : lastOf (take n (keys ns) ++ (key c ∷ [])) ≡ key c
+    last-is = getD-at (take n (keys ns)) (key c) [] 0 (length (take n (keys ns) ++ (key c ∷ [])) - 1) (omega (arith, one-more, front-length))
+
+    looked : lookUp t (keys (take n ns ++ (c ∷ []))) ≡ andThen (levelAt 0 (t .levels) (take n (keys ns))) askValue
+    unfolding lookUp
+    looked = rw (with-last, lt-leb (length (take n (keys ns) ++ (key c ∷ []))) 1 (omega (arith, one-more)), scope-is, last-is)
+
+    deepest : m .components ≤ n → (a : Answer Level) → levelAt 0 (t .levels) (take n (keys ns)) ≡ a → Alike (refuses 16 0) (andThen a askValue)
+    unfolding handleIn
+    deepest d (gives l) e =
+        rw (deep-bindings (m .components) (length (t .objects)) (t .levels) 0 0 0 (take n (keys ns)) l (w .forest) e (omega (arith, front-length))) tt
+    deepest d (refuses a b) e = tt
+
+    pub same-value : Alike (valueIn m t c (take n ns)) (andThen (levelAt 0 (t .levels) (take n (keys ns))) askValue)
+    same-value = go (ltb (length (take n ns)) (m .components)) refl
+      where
+        go : (x : Bool) → ltb (length (take n ns)) (m .components) ≡ x → Alike (valueIn m t c (take n ns)) (andThen (levelAt 0 (t .levels) (take n (keys ns))) askValue)
+        go true e = unfold valueIn in rw (e, looked) (alike-refl (andThen (levelAt 0 (t .levels) (take n (keys ns))) askValue))
+        go false e = unfold valueIn in rw e (deepest (omega (arith, ltb-false (length (take n ns)) (m .components) e, len)) (levelAt 0 (t .levels) (take n (keys ns))) refl)
+
+  pub value-search : outward (valueIn m t c) (refuses 16 0) ns (length ns) 0 ≡ foundOf ns (length ns) (refuses 16 0) (nearF askValue (t .levels) (keys ns) 0 (refuses 0 0))
+  value-search = outward-near (valueIn m t c) askValue (refuses 16 0) (t .levels) ns same-value
+
+  pub value-deep : (d : Deep ℕ) → nearF askValue (t .levels) (keys ns) 0 (refuses 0 0) ≡ gives d → (0 < d .depth) × (d .depth ≤ length ns) × (d .depth < m .components) × (d .value < length (t .objects))
+  value-deep d e =
+      let h = near-hold askValue (t .levels) (keys ns) d e in (
+        h .far,
+        omega (arith, h .near, length-keys ns),
+        shallow h,
+        handle-live (length (t .objects)) 0 (key c) (d .value) (h .level .bindings)
+            (level-ordered (m .components) (length (t .objects)) (t .levels) 1 0 0 (take (d .depth - 0) (keys ns)) (h .level) (w .forest) (h .at)) (h .gave),
+      )
+    where
+      shallow : Hold askValue (t .levels) (keys ns) 0 d (length (keys ns)) → d .depth < m .components
+      shallow h = go (ltb (d .depth) (m .components)) refl
+        where
+          none-given : (b : List Binding) → b ≡ [] → handleIn (key c) b ≡ gives (d .value) → ⊥
+          none-given b q g =
+              let x : refuses 16 0 ≡ gives (d .value) = sym (ap (handleIn (key c)) q ∙ (unfold handleIn in refl)) ∙ g in
+              let z : _≡_ {A = ℕ} 0 1 = cc in omega arith
+
+          go : (x : Bool) → ltb (d .depth) (m .components) ≡ x → d .depth < m .components
+          go true q = ltb-true (d .depth) (m .components) q
+          go false q =
+              absurd (none-given (h .level .bindings)
+              (deep-bindings (m .components) (length (t .objects)) (t .levels) 0 0 0 (take (d .depth - 0) (keys ns)) (h .level) (w .forest) (h .at)
+              (omega (arith, ltb-false (d .depth) (m .components) q, length-take-le (d .depth - 0) (keys ns) (omega (arith, h .near)), h .near, length-keys ns, room)))
+              (h .gave))

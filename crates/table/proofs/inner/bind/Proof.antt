@@ -1,0 +1,67 @@
+-- The level counts the binding, and room is made for its word.
+use Prim.Native.Nat.{_+_}
+use lib.ListN.{drop, getD, set, length-take, length-drop, length-set}
+use Rattle.table.specs.Limits.{limits}
+use Rattle.table.proofs.BindWords.{bind-moves}
+use borrow.Author.Needs.{needs}
+use native.Mathlib.Omega.{arith}
+use Rattle.table.proofs.inner.bind.Statement.{statement}
+use Rattle.table.proofs.inner.bind.Tie as tie
+
+mul-table : tie.Need-mul-table
+mul-table c = search needs
+
+slice-read-table : tie.Need-slice-read-table
+slice-read-table c = search needs
+
+add-table : tie.Need-add-table
+add-table c = search needs
+
+slice-write-table : tie.Need-slice-write-table
+slice-write-table c = search needs
+
+sub-make-room : tie.Need-sub-make-room
+sub-make-room c = search needs
+
+part-make-room-start : tie.Need-part-make-room-start
+part-make-room-start c = search needs
+
+part-make-room-end : tie.Need-part-make-room-end
+part-make-room-end c =
+    let ws = c .before .before .args .table .now in
+    omega (arith, length-set ws (c .before .before .args .at) (getD ws (c .before .before .args .at) 0 + 4294967296))
+
+make-room-requires : tie.Need-make-room-requires
+make-room-requires c κs =
+    let ws = c .before .before .before .args .table .now in
+    omega (
+      arith,
+      length-take 512 (drop 128 (set ws (c .before .before .before .args .at) (getD ws (c .before .before .before .args .at) 0 + 4294967296))),
+      length-drop 128 (set ws (c .before .before .before .args .at) (getD ws (c .before .before .before .args .at) 0 + 4294967296)),
+      length-set ws (c .before .before .before .args .at) (getD ws (c .before .before .before .args .at) 0 + 4294967296),
+    )
+
+same-length : tie.Need-same-length
+same-length c =
+    let ws = c .before .before .before .before .before .before .args .table .now in
+    omega (arith, c .before .table .given .1, length-set ws (c .before .before .before .before .before .before .args .at) (getD ws (c .before .before .before .before .before .before .args .at) 0 + 4294967296))
+
+returns : tie.Need-returns
+returns c =
+    let ws = c .before .before .before .before .before .before .args .table .now in
+    bind-moves limits ws (c .before .before .before .before .before .before .args .at) (c .before .before .before .before .before .before .args .i) (c .before .before .before .before .before .before .args .word) (omega arith) _ (c .before .before .make-room .ensures)
+
+pub bind-spec : {M : Type 1} → statement M
+bind-spec =
+    tie.close
+    (tie.spec
+    mul-table
+    slice-read-table
+    add-table
+    slice-write-table
+    sub-make-room
+    part-make-room-start
+    part-make-room-end
+    make-room-requires
+    same-length
+    returns)

@@ -1,0 +1,96 @@
+-- By what the two passes told.
+use mathlib.Core.Path.{ap, sym, _∙_}
+use Prim.Native.Nat.{_-_}
+use lib.ListN.{length}
+use lib.Seq.{length-take-le}
+use Rattle.table.specs.Inside.{slotSpot}
+use Rattle.table.proofs.Spots.{spot-inside, spot-from, spot-slot, spot-before, spot-missing}
+use borrow.Author.Needs.{needs}
+use native.Mathlib.Omega.{arith}
+use Rattle.table.proofs.inner.find_spot_in.Statement.{statement}
+use Rattle.table.proofs.inner.find_spot_in.Tie as tie
+
+sub-n : tie.Need-sub-n
+sub-n c = search needs
+
+slice-aggregate-seek : tie.Need-slice-aggregate-seek
+slice-aggregate-seek c =
+    let p = c .before .before .before .before .args .path .now in sym (length-take-le (length p - 1) p (omega arith))
+
+seek-requires : tie.Need-seek-requires
+seek-requires c κs = omega (arith, c .before .before .before .before .pre .0)
+
+enum-known-found : tie.Need-enum-known-found
+enum-known-found c = search needs
+
+mul-count : tie.Need-mul-count
+mul-count c =
+    omega (arith, spot-inside (c .before .before .before .before .before .before .before .before .args .levels .now) (c .before .before .before .before .before .before .before .before .args .bindings .now) (c .before .before .before .before .before .before .before .before .args .path .now) (c .before .before .before .before .before .before .before .before .pre .1) (c .before .before .before .seek .result) (c .before .before .before .seek .ensures) (c .before .found .given .0 .0) (c .before .found .given .0 .1 .0) (c .before .found .given .1))
+
+shared-slice-read-count : tie.Need-shared-slice-read-count
+shared-slice-read-count c =
+    spot-inside (c .before .before .before .before .before .before .before .before .before .args .levels .now) (c .before .before .before .before .before .before .before .before .before .args .bindings .now) (c .before .before .before .before .before .before .before .before .before .args .path .now) (c .before .before .before .before .before .before .before .before .before .pre .1) (c .before .before .before .before .seek .result) (c .before .before .before .before .seek .ensures) (c .before .before .found .given .0 .0) (c .before .before .found .given .0 .1 .0) (c .before .before .found .given .1)
+
+mul-find-slot : tie.Need-mul-find-slot
+mul-find-slot c = search needs
+
+shared-slice-read-find-slot : tie.Need-shared-slice-read-find-slot
+shared-slice-read-find-slot c = search needs
+
+find-slot-requires : tie.Need-find-slot-requires
+find-slot-requires c κs =
+    rw (spot-from (c .before .before .before .before .before .before .before .before .before .before .args .levels .now) (c .before .before .before .before .before .before .before .before .before .before .args .bindings .now) (c .before .before .before .before .before .before .before .before .before .before .args .path .now) (c .before .before .before .before .before .before .before .before .before .before .pre .1) (c .before .before .before .before .before .seek .result) (c .before .before .before .before .before .seek .ensures) (c .before .before .before .found .given .0 .0) (c .before .before .before .found .given .0 .1 .0) (c .before .before .before .found .given .1)) (c .before .before .before .before .before .before .before .before .before .before .pre .2 (c .before .before .before .found .given .0 .0))
+
+enum-known-seen : tie.Need-enum-known-seen
+enum-known-seen c = search needs
+
+enum-known-seen-2 : tie.Need-enum-known-seen-2
+enum-known-seen-2 c = search needs
+
+enum-told : tie.Need-enum-told
+enum-told c = search needs
+
+sub-t24 : tie.Need-sub-t24
+sub-t24 c = search needs
+
+enum-known-found-2 : tie.Need-enum-known-found-2
+enum-known-found-2 c = search needs
+
+returns : tie.Need-returns
+returns c =
+    ap (slotSpot (c .before .before .before .before .before .before .before .found .given .0 .0)) (sym (c .before .seen .given .1)) ∙ spot-slot (c .before .before .before .before .before .before .before .before .before .before .before .before .before .before .args .levels .now) (c .before .before .before .before .before .before .before .before .before .before .before .before .before .before .args .bindings .now) (c .before .before .before .before .before .before .before .before .before .before .before .before .before .before .args .path .now) (c .before .before .before .before .before .before .before .before .before .before .before .before .before .before .pre .1) (c .before .before .before .before .before .before .before .before .before .seek .result) (c .before .before .before .before .before .before .before .before .before .seek .ensures) (c .before .before .before .before .before .before .before .found .given .0 .0) (c .before .before .before .before .before .before .before .found .given .0 .1 .0) (c .before .before .before .before .before .before .before .found .given .1) (c .before .before .before .find-slot .result) (c .before .before .before .find-slot .ensures)
+
+returns-2 : tie.Need-returns-2
+returns-2 c =
+    ap (slotSpot (c .before .before .before .before .before .before .before .found .given .0 .0)) (sym (c .before .seen2 .given .1)) ∙ spot-slot (c .before .before .before .before .before .before .before .before .before .before .before .before .before .before .args .levels .now) (c .before .before .before .before .before .before .before .before .before .before .before .before .before .before .args .bindings .now) (c .before .before .before .before .before .before .before .before .before .before .before .before .before .before .args .path .now) (c .before .before .before .before .before .before .before .before .before .before .before .before .before .before .pre .1) (c .before .before .before .before .before .before .before .before .before .seek .result) (c .before .before .before .before .before .before .before .before .before .seek .ensures) (c .before .before .before .before .before .before .before .found .given .0 .0) (c .before .before .before .before .before .before .before .found .given .0 .1 .0) (c .before .before .before .before .before .before .before .found .given .1) (c .before .before .before .find-slot .result) (c .before .before .before .find-slot .ensures)
+
+returns-3 : tie.Need-returns-3
+returns-3 c =
+    spot-before (c .before .before .before .before .before .before .before .args .levels .now) (c .before .before .before .before .before .before .before .args .bindings .now) (c .before .before .before .before .before .before .before .args .path .now) (c .before .before .before .before .before .before .before .pre .1) (c .before .before .seek .result) (c .before .before .seek .ensures) _ (c .enum-told .given .1)
+
+returns-4 : tie.Need-returns-4
+returns-4 c =
+    spot-missing (c .before .before .before .before .before .before .before .before .args .levels .now) (c .before .before .before .before .before .before .before .before .args .bindings .now) (c .before .before .before .before .before .before .before .before .args .path .now) (c .before .before .before .before .before .before .before .before .pre .1) (c .before .before .before .seek .result) (c .before .before .before .seek .ensures) (c .before .found2 .given .0 .0) (c .before .found2 .given .1)
+
+pub find-spot-in-spec : {M : Type 1} → statement M
+find-spot-in-spec =
+    tie.close
+    (tie.spec
+    sub-n
+    slice-aggregate-seek
+    seek-requires
+    enum-known-found
+    mul-count
+    shared-slice-read-count
+    mul-find-slot
+    shared-slice-read-find-slot
+    find-slot-requires
+    enum-known-seen
+    enum-known-seen-2
+    enum-told
+    sub-t24
+    enum-known-found-2
+    returns
+    returns-2
+    returns-3
+    returns-4)

@@ -1,0 +1,57 @@
+-- The objects' part first, then the pass over the records.
+use mathlib.Core.Path.{sym, _∙_}
+use Rattle.table.specs.Limits.{limits}
+use Rattle.table.proofs.Turns.{parts-many, parts-loose, parts-bare, parts-scan}
+use borrow.Author.Needs.{needs}
+use native.Mathlib.Omega.{arith}
+use Rattle.table.proofs.inner.parts_fit.Statement.{statement}
+use Rattle.table.proofs.inner.parts_fit.Tie as tie
+
+shared-slice-read-made : tie.Need-shared-slice-read-made
+shared-slice-read-made c = search needs
+
+returns : tie.Need-returns
+returns c =
+    let a = c .before .before .before .before .before .args in
+    sym (parts-many limits (a .levels .now) (a .bindings .now) (a .objects .now) (omega arith) (c .if1 .taken))
+
+add-rest-zero : tie.Need-add-rest-zero
+add-rest-zero c = search needs
+
+rest-zero-requires : tie.Need-rest-zero-requires
+rest-zero-requires c κs = search needs
+
+shared-slice-read-if3 : tie.Need-shared-slice-read-if3
+shared-slice-read-if3 c = search needs
+
+scan-levels-requires : tie.Need-scan-levels-requires
+scan-levels-requires c κs = search needs
+
+returns-2 : tie.Need-returns-2
+returns-2 c =
+    let a = c .before .before .before .before .before .before .before .before .before .args in
+    sym (parts-bare limits (a .levels .now) (a .bindings .now) (a .objects .now) (omega arith) (c .before .before .before .before .if1 .left) (sym (c .before .before .before .rest-zero .ensures) ∙ c .before .before .if2 .taken) (c .if3 .taken))
+
+returns-3 : tie.Need-returns-3
+returns-3 c =
+    let a = c .before .before .before .before .before .before .before .before .before .before .args in
+    c .scan-levels .ensures ∙ sym (parts-scan limits (a .levels .now) (a .bindings .now) (a .objects .now) (omega arith) (c .before .before .before .before .before .if1 .left) (sym (c .before .before .before .before .rest-zero .ensures) ∙ c .before .before .before .if2 .taken) (c .before .if3 .left))
+
+returns-4 : tie.Need-returns-4
+returns-4 c =
+    let a = c .before .before .before .before .before .before .before .args in
+    sym (parts-loose limits (a .levels .now) (a .bindings .now) (a .objects .now) (omega arith) (c .before .before .if1 .left) (sym (c .before .rest-zero .ensures) ∙ c .if2 .left))
+
+pub parts-fit-spec : {M : Type 1} → statement M
+parts-fit-spec =
+    tie.close
+    (tie.spec
+    shared-slice-read-made
+    returns
+    add-rest-zero
+    rest-zero-requires
+    shared-slice-read-if3
+    scan-levels-requires
+    returns-2
+    returns-3
+    returns-4)

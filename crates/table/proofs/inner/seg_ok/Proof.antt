@@ -1,0 +1,68 @@
+-- Byte by byte, the definition.
+use mathlib.Core.Path.{sym, _∙_}
+use Rattle.name_object.specs.Component.{segOk}
+use Rattle.table.specs.Valid.{segmentOk}
+use borrow.Author.Needs.{needs}
+use Rattle.table.proofs.inner.seg_ok.Statement.{statement}
+use Rattle.table.proofs.inner.seg_ok.Tie as tie
+
+cast-is-lead-name-char : tie.Need-cast-is-lead-name-char
+cast-is-lead-name-char c = search needs
+
+is-lead-name-char-requires : tie.Need-is-lead-name-char-requires
+is-lead-name-char-requires c κs = search needs
+
+cast-is-name-char : tie.Need-cast-is-name-char
+cast-is-name-char c = search needs
+
+is-name-char-requires : tie.Need-is-name-char-requires
+is-name-char-requires c κs = search needs
+
+cast-is-name-char-2 : tie.Need-cast-is-name-char-2
+cast-is-name-char-2 c = search needs
+
+is-name-char-requires-2 : tie.Need-is-name-char-requires-2
+is-name-char-requires-2 c κs = search needs
+
+cast-is-name-char-3 : tie.Need-cast-is-name-char-3
+cast-is-name-char-3 c = search needs
+
+is-name-char-requires-3 : tie.Need-is-name-char-requires-3
+is-name-char-requires-3 c κs = search needs
+
+returns : tie.Need-returns
+unfolding segmentOk segOk
+returns c =
+    simp (sym (c .before .before .before .before .before .before .is-lead-name-char .ensures) ∙ c .before .before .before .before .before .if1 .taken, sym (c .before .before .before .before .is-name-char .ensures) ∙ c .before .before .before .if2 .taken, sym (c .before .before .is-name-char2 .ensures) ∙ c .before .if3 .taken)
+    (c .is-name-char3 .ensures)
+
+returns-2 : tie.Need-returns-2
+unfolding segmentOk segOk
+returns-2 c =
+    simp (sym (c .before .before .before .before .before .is-lead-name-char .ensures) ∙ c .before .before .before .before .if1 .taken, sym (c .before .before .before .is-name-char .ensures) ∙ c .before .before .if2 .taken, sym (c .before .is-name-char2 .ensures) ∙ c .if3 .left)
+
+returns-3 : tie.Need-returns-3
+unfolding segmentOk segOk
+returns-3 c =
+    simp (sym (c .before .before .before .is-lead-name-char .ensures) ∙ c .before .before .if1 .taken, sym (c .before .is-name-char .ensures) ∙ c .if2 .left)
+
+returns-4 : tie.Need-returns-4
+unfolding segmentOk segOk
+returns-4 c = simp (sym (c .before .is-lead-name-char .ensures) ∙ c .if1 .left)
+
+pub seg-ok-spec : {M : Type 1} → statement M
+seg-ok-spec =
+    tie.close
+    (tie.spec
+    cast-is-lead-name-char
+    is-lead-name-char-requires
+    cast-is-name-char
+    is-name-char-requires
+    cast-is-name-char-2
+    is-name-char-requires-2
+    cast-is-name-char-3
+    is-name-char-requires-3
+    returns
+    returns-2
+    returns-3
+    returns-4)

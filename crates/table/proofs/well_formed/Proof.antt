@@ -1,0 +1,63 @@
+-- The memory is its three parts in a row.
+use mathlib.Core.Path.{ap, sym, _∙_}
+use Prim.Native.Nat.{_-_}
+use lib.ListN.{length, take, drop, length-drop}
+use lib.Seq.{length-take-le, take-all}
+use borrow.Author.Tests.{eq-eqb, ne-eqb}
+use Rattle.table.specs.Limits.{limits}
+use Rattle.table.specs.Inside.{partsOk}
+use Rattle.table.proofs.Memory.{formed-test}
+use borrow.Author.Needs.{needs}
+use native.Mathlib.Omega.{arith}
+use Rattle.table.proofs.well_formed.Statement.{statement}
+use Rattle.table.proofs.well_formed.Tie as tie
+
+slice-aggregate-parts-fit : tie.Need-slice-aggregate-parts-fit
+slice-aggregate-parts-fit c = sym (length-take-le 128 (c .before .before .before .args .table .now) (omega arith))
+
+sub-parts-fit : tie.Need-sub-parts-fit
+sub-parts-fit c = search needs
+
+part-parts-fit-start : tie.Need-part-parts-fit-start
+part-parts-fit-start c = search needs
+
+part-parts-fit-end : tie.Need-part-parts-fit-end
+part-parts-fit-end c = search needs
+
+sub-parts-fit-2 : tie.Need-sub-parts-fit-2
+sub-parts-fit-2 c = search needs
+
+part-parts-fit-start-2 : tie.Need-part-parts-fit-start-2
+part-parts-fit-start-2 c = search needs
+
+part-parts-fit-end-2 : tie.Need-part-parts-fit-end-2
+part-parts-fit-end-2 c = search needs
+
+parts-fit-requires : tie.Need-parts-fit-requires
+parts-fit-requires c κs =
+    let a = c .before .before .before .before .before .args in
+    (length-take-le 128 (a .table .now) (omega arith), omega (arith, length-drop 640 (a .table .now)))
+
+returns : tie.Need-returns
+returns c =
+    let ws = c .before .before .before .before .before .before .args .table .now in
+    c .parts-fit .ensures ∙ sym (formed-test limits (omega arith) ws ∙ rw (eq-eqb _ _ (c .before .before .before .before .if1 .taken)) (ap (partsOk limits (take 128 ws) (take 512 (drop 128 ws))) (sym (take-all (length ws - 640) (drop 640 ws) (omega (arith, length-drop 640 ws))))))
+
+returns-2 : tie.Need-returns-2
+returns-2 c =
+    sym (formed-test limits (omega arith) (c .before .before .args .table .now) ∙ rw (ne-eqb _ _ (c .if1 .left)))
+
+pub well-formed-spec : {M : Type 1} → statement M
+well-formed-spec =
+    tie.close
+    (tie.spec
+    slice-aggregate-parts-fit
+    sub-parts-fit
+    part-parts-fit-start
+    part-parts-fit-end
+    sub-parts-fit-2
+    part-parts-fit-start-2
+    part-parts-fit-end-2
+    parts-fit-requires
+    returns
+    returns-2)

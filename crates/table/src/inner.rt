@@ -1,0 +1,495 @@
+// For the layer above alone, over the parts of a table: what each needs is tested there.
+ghost use mathlib.Core.Path.{_≡_};
+ghost use mathlib.Core.Bool.{true, false};
+ghost use mathlib.Core.List.{_++_, map};
+ghost use Prim.Native.Nat.{ℕ, _+_, _-_, _<_, _≤_};
+ghost use lib.ListN.{length, take, drop, getD, replicate};
+ghost use Rattle.pkg_length.specs.Refusal.{pick};
+ghost use Rattle.name_object.specs.Component.{componentLimit};
+ghost use Rattle.name_object.specs.Memory.{allZero};
+ghost use Rattle.table.specs.Limits.{limits};
+ghost use Rattle.table.specs.Layout.{bindingOf};
+ghost use Rattle.table.specs.Valid.{segmentOk, nameOk};
+ghost use Rattle.table.specs.Memory.{wellFormed};
+ghost use Rattle.table.specs.Inside.{wordOk, bindsOk, recordOk, scan, lowest, partsOk, seekIn, placed, goneAt, push, counts, subtreeOf, closed, slotIn, spotIn, bindWords, BindingsHeld, nearerOf, nearIn, farthest, reopened, onward, nearLevelIn, Keyed};
+use pkg_length::AmlError;
+
+// Zero everywhere.
+pub fn clear(xs: &mut [u64])
+    ensures { λ _. ⌜ now (xs .exit) ≡ replicate (length (now (xs .entry))) 0 ⌝ }
+{
+    let mut i = 0;
+    while i < xs.len() {
+        xs[i] = 0;
+        i += 1;
+    }
+}
+
+// A number is a segment.
+fn seg_ok(s: u64) -> bool
+    requires { ⌜ s < 4294967296 ⌝ }
+    ensures { λ r. ⌜ r ≡ segmentOk s ⌝ }
+{
+    if name_object::is_lead_name_char((s / 16777216) as u8) {
+        if name_object::is_name_char((s / 65536 % 256) as u8) {
+            if name_object::is_name_char((s / 256 % 256) as u8) {
+                name_object::is_name_char((s % 256) as u8)
+            } else {
+                false
+            }
+        } else {
+            false
+        }
+    } else {
+        false
+    }
+}
+
+// The root has no segment and is a Scope; below it, a segment and one of the six types.
+fn name_fits(rank: u64, seg: u64, typ: u64) -> bool
+    requires { ⌜ seg < 4294967296 ⌝ }
+    ensures { λ r. ⌜ r ≡ nameOk rank seg typ ⌝ }
+{
+    if rank == 1 {
+        if seg == 0 { typ == 0 } else { false }
+    } else {
+        if seg_ok(seg) { typ < 6 } else { false }
+    }
+}
+
+// A level record's own fields; lo is the least segment that may come.
+fn level_fits(lo: u64, w: u64) -> bool
+    ensures { λ r. ⌜ r ≡ wordOk componentLimit lo w ⌝ }
+{
+    let rank = w / 35184372088832;
+    let seg = w % 4294967296;
+    if rank == 0 {
+        return false;
+    }
+    if 32 < rank {
+        return false;
+    }
+    if seg < lo {
+        return false;
+    }
+    if name_fits(rank, seg, w / 4398046511104 % 8) {
+        if rank < 32 {
+            true
+        } else {
+            w / 4294967296 % 1024 == 0
+        }
+    } else {
+        false
+    }
+}
+
+// The n bindings from index from on are there, rise, and have handles below made.
+fn binds_fit(bindings: &[u64], from: usize, n: usize, made: u64) -> bool
+    requires { ⌜ from ≤ length (now bindings) ⌝ }
+    ensures { λ r. ⌜ r ≡ bindsOk made n (drop from (now (bindings .entry))) ⌝ }
+{
+    if bindings.len() - from < n {
+        return false;
+    }
+    let end = from + n;
+    let mut lo = 0;
+    let mut i = from;
+    while i < end {
+        let seg = bindings[i] / 4294967296;
+        if seg < lo {
+            return false;
+        }
+        if seg_ok(seg) {
+            if made <= bindings[i] % 4294967296 {
+                return false;
+            }
+            lo = seg + 1;
+        } else {
+            return false;
+        }
+        i += 1;
+    }
+    true
+}
+
+fn rest_zero(xs: &[u64], from: usize) -> bool
+    requires { ⌜ from ≤ length (now xs) ⌝ }
+    ensures { λ r. ⌜ r ≡ allZero (drop from (now (xs .entry))) ⌝ }
+{
+    let mut i = from;
+    while i < xs.len() {
+        if xs[i] != 0 {
+            return false;
+        }
+        i += 1;
+    }
+    true
+}
+
+// A record after one of rank p, with its bindings from index from on; low has the least segment that may come at each rank.
+fn record_fits(w: u64, p: u64, low: &[u64; 34], bindings: &[u64], from: usize, made: u64) -> bool
+    requires { ⌜ (p ≤ 32) × (from ≤ length (now bindings)) ⌝ }
+    ensures { λ r. ⌜ r ≡ recordOk componentLimit made p (now (low .entry)) w (drop from (now (bindings .entry))) ⌝ }
+{
+    let rank = w / 35184372088832;
+    if p + 1 < rank {
+        return false;
+    }
+    if level_fits(low[rank as usize], w) {
+        binds_fit(bindings, from, (w / 4294967296 % 1024) as usize, made)
+    } else {
+        false
+    }
+}
+
+// The records and their bindings, in one pass.
+fn scan_levels(levels: &[u64], bindings: &[u64], made: u64) -> bool
+    ensures { λ r. ⌜ r ≡ scan componentLimit made 0 (lowest componentLimit) (now (levels .entry)) (now (bindings .entry)) ⌝ }
+{
+    let mut low = [0u64; 34];
+    let mut p: u64 = 0;
+    let mut m = 0;
+    let mut k = 0;
+    while k < levels.len() {
+        let w = levels[k];
+        if w == 0 {
+            if rest_zero(levels, k + 1) {
+                return rest_zero(bindings, m);
+            }
+            return false;
+        }
+        if record_fits(w, p, &low, bindings, m, made) {
+            p = w / 35184372088832;
+            low[p as usize] = w % 4294967296 + 1;
+            low[p as usize + 1] = 0;
+            m += (w / 4294967296 % 1024) as usize;
+        } else {
+            return false;
+        }
+        k += 1;
+    }
+    rest_zero(bindings, m)
+}
+
+// The table's three parts.
+pub fn parts_fit(levels: &[u64], bindings: &[u64], objects: &[u64]) -> bool
+    requires { ⌜ (length (now levels) ≡ 128) × (length (now objects) ≡ 513) ⌝ }
+    ensures { λ r. ⌜ r ≡ partsOk limits (now (levels .entry)) (now (bindings .entry)) (now (objects .entry)) ⌝ }
+{
+    let made = objects[0];
+    if 512 < made {
+        return false;
+    }
+    if rest_zero(objects, made as usize + 1) {
+        if levels[0] == 0 {
+            false
+        } else {
+            scan_levels(levels, bindings, made)
+        }
+    } else {
+        false
+    }
+}
+
+// Puts w at index at, and moves what stood from there on up by one; the last word is lost.
+pub fn make_room(xs: &mut [u64], at: usize, w: u64)
+    requires { ⌜ at ≤ length (now xs) ⌝ }
+    ensures { λ _. ⌜ now (xs .exit) ≡ take at (now (xs .entry)) ++ push w (drop at (now (xs .entry))) ⌝ }
+{
+    let mut i = at;
+    let mut c = w;
+    while i < xs.len() {
+        let x = xs[i];
+        xs[i] = c;
+        c = x;
+        i += 1;
+    }
+}
+
+// Takes the words from index at up to, not including, index end out; zeros follow the rest.
+pub fn close_gap(xs: &mut [u64], at: usize, end: usize)
+    requires { ⌜ (at ≤ end) × (end ≤ length (now xs)) ⌝ }
+    ensures { λ _. ⌜ now (xs .exit) ≡ closed at end (now (xs .entry)) ⌝ }
+{
+    let mut i = at;
+    let mut j = end;
+    while j < xs.len() {
+        xs[i] = xs[j];
+        i += 1;
+        j += 1;
+    }
+    while i < xs.len() {
+        xs[i] = 0;
+        i += 1;
+    }
+}
+
+// Where a path leads.
+pub enum Sought {
+    // the index of the level's record, and of its first binding
+    Here(usize, usize),
+    // the level around is there, and the record would stand at this index
+    Before(usize),
+    // segments up to and including the missing one, which is not the last
+    Missing(usize),
+}
+
+// No record for the key j of n: the place of what is missing, or of what may come.
+fn gone_at(n: usize, j: usize, k: usize) -> Sought
+    requires { ⌜ j < n ⌝ }
+    ensures { λ r. ⌜ r ≡ goneAt n j k ⌝ }
+{
+    if j + 1 == n {
+        Sought::Before(k)
+    } else {
+        Sought::Missing(j)
+    }
+}
+
+// Where the path's level stands, or would stand, in one pass over the records.
+pub fn seek(levels: &[u64], path: &[u64]) -> Sought
+    requires { ⌜ length (now levels) ≤ 128 ⌝ }
+    ensures { λ r. ⌜ r ≡ placed (now (levels .entry)) (seekIn (now (path .entry)) (now (levels .entry)) 0 0 0) ⌝ }
+{
+    let mut at = 0;
+    let mut from = 0;
+    let mut m = 0;
+    let mut k = 0;
+    let mut j = 0;
+    while j < path.len() {
+        if levels.len() <= k {
+            return gone_at(path.len(), j, k);
+        }
+        let w = levels[k];
+        let rank = w / 35184372088832;
+        if rank <= j as u64 {
+            return gone_at(path.len(), j, k);
+        }
+        if rank == j as u64 + 1 {
+            let seg = w % 4294967296;
+            let want = path[j];
+            if seg == want {
+                at = k;
+                from = m;
+                j += 1;
+            } else {
+                if want < seg {
+                    return gone_at(path.len(), j, k);
+                }
+            }
+        }
+        m += (w / 4294967296 % 1024) as usize;
+        k += 1;
+    }
+    Sought::Here(at, from)
+}
+
+// The index past a level's records and those below it, and past their bindings.
+pub struct Run {
+    pub end: usize,
+    pub to: usize,
+}
+
+// The level at index j, whose first binding stands at index from.
+pub fn subtree(levels: &[u64], j: usize, from: usize) -> Run
+    requires { ⌜ (j < length (now levels)) × (length (now levels) ≤ 128) × (from ≡ counts (take j (now levels))) ⌝ }
+    ensures { λ r. ⌜ r ≡ subtreeOf (now (levels .entry)) j ⌝ }
+{
+    let rank = levels[j] / 35184372088832;
+    let mut e = j + 1;
+    let mut to = from + (levels[j] / 4294967296 % 1024) as usize;
+    while e < levels.len() {
+        if levels[e] / 35184372088832 <= rank {
+            return Run { end: e, to };
+        }
+        to += (levels[e] / 4294967296 % 1024) as usize;
+        e += 1;
+    }
+    Run { end: e, to }
+}
+
+// A segment among a level's bindings.
+pub enum Slot {
+    // its handle
+    Bound(u64),
+    // the index where its word would stand
+    Free(usize),
+}
+
+// The n bindings from index from on.
+fn find_slot(bindings: &[u64], from: usize, n: usize, seg: u64) -> Slot
+    requires { ⌜ from + n ≤ length (now bindings) ⌝ }
+    ensures { λ r. ⌜ r ≡ slotIn seg (map bindingOf (take n (drop from (now (bindings .entry))))) from ⌝ }
+{
+    let end = from + n;
+    let mut i = from;
+    while i < end {
+        let b = bindings[i];
+        let here = b / 4294967296;
+        if here == seg {
+            return Slot::Bound(b % 4294967296);
+        }
+        if seg < here {
+            return Slot::Free(i);
+        }
+        i += 1;
+    }
+    Slot::Free(end)
+}
+
+// Where a path's last segment is bound, or would be.
+pub enum Spot {
+    // its handle
+    Bound(u64),
+    // the index of its level's record, and where its word would stand among the bindings
+    Free(usize, usize),
+    Refused(AmlError),
+}
+
+fn find_spot_in(levels: &[u64], bindings: &[u64], path: &[u64]) -> Spot
+    requires { ⌜ (length (now levels) ≡ 128) × (1 < length (now path)) × BindingsHeld (now levels) (now bindings) ⌝ }
+    ensures { λ r. ⌜ r ≡ spotIn (now (levels .entry)) (now (bindings .entry)) (now (path .entry)) ⌝ }
+{
+    let n = path.len() - 1;
+    let found = seek(levels, &path[..n]);
+    match found {
+        Sought::Here(at, from) => {
+            let count = (levels[at] / 4294967296 % 1024) as usize;
+            let seen = find_slot(bindings, from, count, path[n]);
+            match seen {
+                Slot::Bound(h) => Spot::Bound(h),
+                Slot::Free(i) => Spot::Free(at, i),
+            }
+        }
+        Sought::Before(_) => Spot::Refused(AmlError::LevelDoesNotExist(n - 1)),
+        Sought::Missing(p) => Spot::Refused(AmlError::LevelDoesNotExist(p)),
+    }
+}
+
+pub fn find_spot(table: &[u64], path: &[u64]) -> Spot
+    requires { ⌜ (wellFormed limits (now table) ≡ true) × Keyed (now path) ⌝ }
+    ensures { λ r. ⌜ r ≡ spotIn (take 128 (now (table .entry))) (take 512 (drop 128 (now (table .entry)))) (now (path .entry)) ⌝ }
+{
+    if path.len() <= 1 {
+        return Spot::Refused(AmlError::RootNotAllowed);
+    }
+    find_spot_in(&table[..128], &table[128..640], path)
+}
+
+// One binding more, of the level whose record stands at index at; its word goes to index i of the bindings.
+pub fn bind(table: &mut [u64], at: usize, i: usize, word: u64)
+    requires { ⌜ (length (now table) ≡ 1153) × (at < 128) × (i ≤ 512) × (getD (now table) at 0 + 4294967296 < 18446744073709551616) ⌝ }
+    ensures { λ _. ⌜ now (table .exit) ≡ bindWords limits (now (table .entry)) at i word ⌝ }
+{
+    table[at] += 4294967296;
+    make_room(&mut table[128..640], i, word);
+}
+
+// The innermost scope that holds a segment: how many components it has, 0 for none, and the handle.
+pub struct Nearest {
+    pub depth: usize,
+    pub handle: u64,
+}
+
+// The bindings of a level of the scope, which has that many components, before what was found further out.
+fn nearer(bindings: &[u64], from: usize, n: usize, seg: u64, depth: usize, out: Nearest) -> Nearest
+    requires { ⌜ from + n ≤ length (now bindings) ⌝ }
+    ensures { λ r. ⌜ r ≡ nearerOf depth (slotIn seg (map bindingOf (take n (drop from (now (bindings .entry))))) from) out ⌝ }
+{
+    let seen = find_slot(bindings, from, n, seg);
+    match seen {
+        Slot::Bound(handle) => Nearest { depth, handle },
+        Slot::Free(_) => out,
+    }
+}
+
+// Down the scope's levels in one pass over the records, remembering the nearest binding on the way.
+pub fn nearest_value(levels: &[u64], bindings: &[u64], scope: &[u64], seg: u64) -> Nearest
+    requires { ⌜ (length (now levels) ≤ 128) × BindingsHeld (now levels) (now bindings) ⌝ }
+    ensures { λ r. ⌜ r ≡ nearIn seg (now (scope .entry)) (now (levels .entry)) (now (bindings .entry)) 0 0 farthest ⌝ }
+{
+    let mut best = Nearest {
+        depth: 0,
+        handle: 0,
+    };
+    let mut m = 0;
+    let mut k = 0;
+    let mut j = 0;
+    while j < scope.len() {
+        if levels.len() <= k {
+            return best;
+        }
+        let w = levels[k];
+        let rank = w / 35184372088832;
+        if rank <= j as u64 {
+            return best;
+        }
+        let n = (w / 4294967296 % 1024) as usize;
+        if rank == j as u64 + 1 {
+            let here = w % 4294967296;
+            let want = scope[j];
+            if here == want {
+                j += 1;
+                best = nearer(bindings, m, n, seg, j, best);
+            } else {
+                if want < here {
+                    return best;
+                }
+            }
+        }
+        m += n;
+        k += 1;
+    }
+    best
+}
+
+// The first where the test holds, else the second.
+fn choose(test: bool, a: usize, b: usize) -> usize
+    ensures { λ r. ⌜ r ≡ pick test a b ⌝ }
+{
+    if test { a } else { b }
+}
+
+// How many components the level of the scope has that a record of this rank stands in.
+fn reopen(depth: usize, rank: usize) -> usize
+    requires { ⌜ 0 < rank ⌝ }
+    ensures { λ r. ⌜ r ≡ reopened depth rank ⌝ }
+{
+    if rank <= depth { rank - 1 } else { depth }
+}
+
+// The scope goes on with this segment.
+fn goes_on(scope: &[u64], depth: usize, seg: u64) -> bool
+    ensures { λ r. ⌜ r ≡ onward (now (scope .entry)) depth seg ⌝ }
+{
+    if depth < scope.len() {
+        seg == scope[depth]
+    } else {
+        false
+    }
+}
+
+// The innermost scope that has a level of that segment: how many components it has, 0 for none. One pass: depth is how many components the
+// innermost level of the scope has that the pass is in. What follows a record of no higher rank than the best stands in no nearer scope.
+pub fn nearest_level(levels: &[u64], scope: &[u64], seg: u64) -> usize
+    ensures { λ r. ⌜ r ≡ nearLevelIn seg (now (scope .entry)) (now (levels .entry)) 0 0 ⌝ }
+{
+    let mut depth: usize = 0;
+    let mut best: usize = 0;
+    let mut k = 0;
+    while k < levels.len() {
+        let w = levels[k];
+        let rank = (w / 35184372088832) as usize;
+        if rank <= best {
+            return best;
+        }
+        depth = reopen(depth, rank);
+        if rank == depth + 1 {
+            let here = w % 4294967296;
+            best = choose(here == seg, depth, best);
+            depth = choose(goes_on(scope, depth, here), rank, depth);
+        }
+        k += 1;
+    }
+    best
+}
