@@ -17,31 +17,45 @@ are-paths-requires c κs = search needs
 
 resolve-alias-requires : tie.Need-resolve-alias-requires
 resolve-alias-requires c κs =
-    (sym (c .before .before .before .before .well-formed .ensures) ∙ c .before .before .before .if1 .taken, (three-paths (c .before .before .before .before .before .before .before .args .path) (c .before .before .before .before .before .before .before .args .scope) (c .before .before .before .before .before .before .before .args .target) (sym (c .before .before .are-paths .ensures) ∙ c .before .if2 .taken)) .0, (three-paths (c .before .before .before .before .before .before .before .args .path) (c .before .before .before .before .before .before .before .args .scope) (c .before .before .before .before .before .before .before .args .target) (sym (c .before .before .are-paths .ensures) ∙ c .before .if2 .taken)) .1, (three-paths (c .before .before .before .before .before .before .before .args .path) (c .before .before .before .before .before .before .before .args .scope) (c .before .before .before .before .before .before .before .args .target) (sym (c .before .before .are-paths .ensures) ∙ c .before .if2 .taken)) .2)
+    let c3 = c .before .before .before in
+    let c4 = c3 .before in
+    let c7 = c4 .before .before .before in
+    let h1 = three-paths (c7 .args .path) (c7 .args .scope) (c7 .args .target) (sym (c .before .before .are-paths .ensures) ∙ c .before .if2 .taken) in
+    (sym (c4 .well-formed .ensures) ∙ c3 .if1 .taken, h1 .0, h1 .1, h1 .2)
 
 same-length : tie.Need-same-length
 same-length c = search needs
 
 returns : tie.Need-returns
 returns c =
-    let ws = c .before .before .before .before .before .before .before .before .before .before .args .table .now in
-    c .before .before .resolve-alias .ensures ∙ ap (left limits ws) (alias-given limits ws (c .before .before .before .before .before .before .before .before .before .before .args .path) (c .before .before .before .before .before .before .before .before .before .before .args .scope) (c .before .before .before .before .before .before .before .before .before .before .args .target) (sym (c .before .before .before .before .before .before .before .well-formed .ensures) ∙ c .before .before .before .before .before .before .if1 .taken) (three-paths (c .before .before .before .before .before .before .before .before .before .before .args .path) (c .before .before .before .before .before .before .before .before .before .before .args .scope) (c .before .before .before .before .before .before .before .before .before .before .args .target) (sym (c .before .before .before .before .before .are-paths .ensures) ∙ c .before .before .before .before .if2 .taken)))
+    let c4 = c .before .before .before .before in
+    let c5 = c4 .before in
+    let c6 = c5 .before in
+    let c7 = c6 .before in
+    let c10 = c7 .before .before .before in
+    let ws = c10 .args .table .now in
+    c .before .before .resolve-alias .ensures ∙ ap (left limits ws)
+    (alias-given limits ws (c10 .args .path) (c10 .args .scope) (c10 .args .target) (sym (c7 .well-formed .ensures) ∙ c6 .if1 .taken) (three-paths (c10 .args .path) (c10 .args .scope) (c10 .args .target) (sym (c5 .are-paths .ensures) ∙ c4 .if2 .taken)))
 
 same-length-2 : tie.Need-same-length-2
 same-length-2 c = search needs
 
 returns-2 : tie.Need-returns-2
 returns-2 c =
-    let ws = c .before .before .before .before .before .before .args .table .now in
-    left-kept limits ws _ _ (addAliasCall limits ws (c .before .before .before .before .before .before .args .path) (c .before .before .before .before .before .before .args .scope) (c .before .before .before .before .before .before .args .target)) (alias-paths limits ws (c .before .before .before .before .before .before .args .path) (c .before .before .before .before .before .before .args .scope) (c .before .before .before .before .before .before .args .target) (sym (c .before .before .before .well-formed .ensures) ∙ c .before .before .if1 .taken) (sym (c .before .are-paths .ensures) ∙ c .if2 .left))
+    let c3 = c .before .before .before in
+    let c6 = c3 .before .before .before in
+    let ws = c6 .args .table .now in
+    left-kept limits ws _ _ (addAliasCall limits ws (c6 .args .path) (c6 .args .scope) (c6 .args .target))
+    (alias-paths limits ws (c6 .args .path) (c6 .args .scope) (c6 .args .target) (sym (c3 .well-formed .ensures) ∙ c .before .before .if1 .taken) (sym (c .before .are-paths .ensures) ∙ c .if2 .left))
 
 same-length-3 : tie.Need-same-length-3
 same-length-3 c = search needs
 
 returns-3 : tie.Need-returns-3
 returns-3 c =
-    let ws = c .before .before .before .before .args .table .now in
-    left-kept limits ws _ _ (addAliasCall limits ws (c .before .before .before .before .args .path) (c .before .before .before .before .args .scope) (c .before .before .before .before .args .target)) (alias-bad limits ws (c .before .before .before .before .args .path) (c .before .before .before .before .args .scope) (c .before .before .before .before .args .target) (sym (c .before .well-formed .ensures) ∙ c .if1 .left))
+    let c4 = c .before .before .before .before in
+    let ws = c4 .args .table .now in
+    left-kept limits ws _ _ (addAliasCall limits ws (c4 .args .path) (c4 .args .scope) (c4 .args .target)) (alias-bad limits ws (c4 .args .path) (c4 .args .scope) (c4 .args .target) (sym (c .before .well-formed .ensures) ∙ c .if1 .left))
 
 pub add-alias-at-resolved-path-spec : {M : Type 1} → statement M
 add-alias-at-resolved-path-spec =

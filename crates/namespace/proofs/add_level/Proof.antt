@@ -44,22 +44,39 @@ keys-of-requires c κs =
 
 array-share-prefix-keys : tie.Need-array-share-prefix-keys
 array-share-prefix-keys c =
-    let n = settled-count (c .before .before .before .before .before .settled .result .name) ((settled-done (c .before .before .before .before .before .before .before .before .before .before .args .path) (c .before .before .before .before .before .settled .result) (c .before .before .before .before .before .settled .ensures) (c .before .before .before .enum-told .given .1)) .0) in
+    let c3 = c .before .before .before in
+    let c5 = c3 .before .before in
+    let c10 = c5 .before .before .before .before .before in
+    let n = settled-count (c5 .settled .result .name) ((settled-done (c10 .args .path) (c5 .settled .result) (c5 .settled .ensures) (c3 .enum-told .given .1)) .0) in
     let len : length (c .before .keys-of .result) ≡ 32 = search needs in
     omega arith
 
 slice-aggregate-add-level : tie.Need-slice-aggregate-add-level
 slice-aggregate-add-level c =
-    let n = settled-count (c .before .before .before .before .before .before .settled .result .name) ((settled-done (c .before .before .before .before .before .before .before .before .before .before .before .args .path) (c .before .before .before .before .before .before .settled .result) (c .before .before .before .before .before .before .settled .ensures) (c .before .before .before .before .enum-told .given .1)) .0) in
+    let c4 = c .before .before .before .before in
+    let c6 = c4 .before .before in
+    let c11 = c6 .before .before .before .before .before in
+    let n = settled-count (c6 .settled .result .name) ((settled-done (c11 .args .path) (c6 .settled .result) (c6 .settled .ensures) (c4 .enum-told .given .1)) .0) in
     let len : length (c .before .before .keys-of .result) ≡ 32 = search needs in
-    sym (length-take-le (c .before .before .before .before .before .before .settled .result .name .count) (c .before .before .keys-of .result) (omega arith))
+    sym (length-take-le (c6 .settled .result .name .count) (c .before .before .keys-of .result) (omega arith))
 
 type-number-requires : tie.Need-type-number-requires
 type-number-requires c κs = search needs
 
 add-level-requires : tie.Need-add-level-requires
 add-level-requires c κs =
-    (sym (c .before .before .before .before .before .before .before .before .before .well-formed .ensures) ∙ c .before .before .before .before .before .before .before .before .if1 .taken, rw (c .before .before .before .keys-of .ensures) (kept-keyed componentLimit _ (settled-kept (c .before .before .before .before .before .before .before .settled .result .name) ((settled-done (c .before .before .before .before .before .before .before .before .before .before .before .before .args .path) (c .before .before .before .before .before .before .before .settled .result) (c .before .before .before .before .before .before .before .settled .ensures) (c .before .before .before .before .before .enum-told .given .1)) .0)) (omega arith)), rw (c .type-number .ensures) (type-low (c .before .before .before .before .before .before .before .before .before .before .before .before .args .typ)))
+    let c3 = c .before .before .before in
+    let c5 = c3 .before .before in
+    let c7 = c5 .before .before in
+    let c8 = c7 .before in
+    let c9 = c8 .before in
+    let c12 = c9 .before .before .before in (
+      sym (c9 .well-formed .ensures) ∙ c8 .if1 .taken,
+      rw (c3 .keys-of .ensures)
+          (kept-keyed componentLimit _ (settled-kept (c7 .settled .result .name) ((settled-done (c12 .args .path) (c7 .settled .result) (c7 .settled .ensures) (c5 .enum-told .given .1)) .0)) (omega arith)),
+      rw (c .type-number .ensures)
+          (type-low (c12 .args .typ)),
+    )
 
 same-length : tie.Need-same-length
 same-length c = search needs
@@ -67,8 +84,13 @@ same-length c = search needs
 returns : tie.Need-returns
 unfolding addLevelCall
 returns c =
-    let ws = c .before .before .before .before .before .before .before .before .args .table .now in
-    left-kept limits ws _ _ _ (call-refused limits ws (λ t p. done (addLevel limits t p (typeNumber (c .before .before .before .before .before .before .before .before .args .typ)))) (settledKeys componentLimit (c .before .before .before .before .before .before .before .before .args .path)) (sym (c .before .before .before .before .before .well-formed .ensures) ∙ c .before .before .before .before .if1 .taken) (c .before .said .given .0 .0) (settled-refused (c .before .before .before .before .before .before .before .before .args .path) (c .before .before .before .settled .result) (c .before .before .before .settled .ensures) (c .before .said .given .0 .0) (c .before .said .given .1)))
+    let c3 = c .before .before .before in
+    let c4 = c3 .before in
+    let c5 = c4 .before in
+    let c8 = c5 .before .before .before in
+    let ws = c8 .args .table .now in
+    left-kept limits ws _ _ _ (call-refused limits ws (λ t p. done (addLevel limits t p (typeNumber (c8 .args .typ)))) (settledKeys componentLimit (c8 .args .path)) (sym (c5 .well-formed .ensures) ∙ c4 .if1 .taken)
+    (c .before .said .given .0 .0) (settled-refused (c8 .args .path) (c3 .settled .result) (c3 .settled .ensures) (c .before .said .given .0 .0) (c .before .said .given .1)))
 
 same-length-2 : tie.Need-same-length-2
 same-length-2 c = search needs
@@ -76,8 +98,17 @@ same-length-2 c = search needs
 returns-2 : tie.Need-returns-2
 unfolding addLevelCall
 returns-2 c =
-    let ws = c .before .before .before .before .before .before .before .before .before .before .before .before .before .before .before .args .table .now in
-    c .before .before .add-level .ensures ∙ ap₂ (λ (p : List ℕ) (n : ℕ). left limits ws (done (addLevel limits (decode limits ws) p n))) (c .before .before .before .before .before .before .keys-of .ensures) (c .before .before .before .type-number .ensures) ∙ ap (left limits ws) (call-given limits ws (λ t p. done (addLevel limits t p (typeNumber (c .before .before .before .before .before .before .before .before .before .before .before .before .before .before .before .args .typ)))) (settledKeys componentLimit (c .before .before .before .before .before .before .before .before .before .before .before .before .before .before .before .args .path)) (sym (c .before .before .before .before .before .before .before .before .before .before .before .before .well-formed .ensures) ∙ c .before .before .before .before .before .before .before .before .before .before .before .if1 .taken) _ ((settled-done (c .before .before .before .before .before .before .before .before .before .before .before .before .before .before .before .args .path) (c .before .before .before .before .before .before .before .before .before .before .settled .result) (c .before .before .before .before .before .before .before .before .before .before .settled .ensures) (c .before .before .before .before .before .before .before .before .enum-told .given .1)) .1))
+    let c3 = c .before .before .before in
+    let c6 = c3 .before .before .before in
+    let c8 = c6 .before .before in
+    let c10 = c8 .before .before in
+    let c11 = c10 .before in
+    let c12 = c11 .before in
+    let c15 = c12 .before .before .before in
+    let ws = c15 .args .table .now in
+    c .before .before .add-level .ensures ∙ ap₂ (λ (p : List ℕ) (n : ℕ). left limits ws (done (addLevel limits (decode limits ws) p n))) (c6 .keys-of .ensures) (c3 .type-number .ensures)
+    ∙ ap (left limits ws) (call-given limits ws (λ t p. done (addLevel limits t p (typeNumber (c15 .args .typ)))) (settledKeys componentLimit (c15 .args .path)) (sym (c12 .well-formed .ensures) ∙ c11 .if1 .taken) _
+    ((settled-done (c15 .args .path) (c10 .settled .result) (c10 .settled .ensures) (c8 .enum-told .given .1)) .1))
 
 same-length-3 : tie.Need-same-length-3
 same-length-3 c = search needs

@@ -34,19 +34,33 @@ keys-of-requires c κs =
 
 array-share-prefix-keys : tie.Need-array-share-prefix-keys
 array-share-prefix-keys c =
-    let n = settled-count (c .before .before .before .before .before .settled .result .name) ((settled-done (c .before .before .before .before .before .before .before .before .before .before .args .path) (c .before .before .before .before .before .settled .result) (c .before .before .before .before .before .settled .ensures) (c .before .before .before .enum-told .given .1)) .0) in
+    let c3 = c .before .before .before in
+    let c5 = c3 .before .before in
+    let c10 = c5 .before .before .before .before .before in
+    let n = settled-count (c5 .settled .result .name) ((settled-done (c10 .args .path) (c5 .settled .result) (c5 .settled .ensures) (c3 .enum-told .given .1)) .0) in
     let len : length (c .before .keys-of .result) ≡ 32 = search needs in
     omega arith
 
 slice-aggregate-add-value : tie.Need-slice-aggregate-add-value
 slice-aggregate-add-value c =
-    let n = settled-count (c .before .before .before .before .before .before .settled .result .name) ((settled-done (c .before .before .before .before .before .before .before .before .before .before .before .args .path) (c .before .before .before .before .before .before .settled .result) (c .before .before .before .before .before .before .settled .ensures) (c .before .before .before .before .enum-told .given .1)) .0) in
+    let c4 = c .before .before .before .before in
+    let c6 = c4 .before .before in
+    let c11 = c6 .before .before .before .before .before in
+    let n = settled-count (c6 .settled .result .name) ((settled-done (c11 .args .path) (c6 .settled .result) (c6 .settled .ensures) (c4 .enum-told .given .1)) .0) in
     let len : length (c .before .before .keys-of .result) ≡ 32 = search needs in
-    sym (length-take-le (c .before .before .before .before .before .before .settled .result .name .count) (c .before .before .keys-of .result) (omega arith))
+    sym (length-take-le (c6 .settled .result .name .count) (c .before .before .keys-of .result) (omega arith))
 
 add-value-requires : tie.Need-add-value-requires
 add-value-requires c κs =
-    (sym (c .before .before .before .before .before .before .before .before .well-formed .ensures) ∙ c .before .before .before .before .before .before .before .if1 .taken, rw (c .before .before .keys-of .ensures) (kept-keyed componentLimit _ (settled-kept (c .before .before .before .before .before .before .settled .result .name) ((settled-done (c .before .before .before .before .before .before .before .before .before .before .before .args .path) (c .before .before .before .before .before .before .settled .result) (c .before .before .before .before .before .before .settled .ensures) (c .before .before .before .before .enum-told .given .1)) .0)) (omega arith)))
+    let c4 = c .before .before .before .before in
+    let c6 = c4 .before .before in
+    let c7 = c6 .before in
+    let c8 = c7 .before in
+    let c11 = c8 .before .before .before in (
+      sym (c8 .well-formed .ensures) ∙ c7 .if1 .taken,
+      rw (c .before .before .keys-of .ensures)
+          (kept-keyed componentLimit _ (settled-kept (c6 .settled .result .name) ((settled-done (c11 .args .path) (c6 .settled .result) (c6 .settled .ensures) (c4 .enum-told .given .1)) .0)) (omega arith)),
+    )
 
 same-length : tie.Need-same-length
 same-length c = search needs
@@ -54,8 +68,13 @@ same-length c = search needs
 returns : tie.Need-returns
 unfolding addValueCall
 returns c =
-    let ws = c .before .before .before .before .before .before .before .before .args .table .now in
-    left-kept limits ws _ _ _ (call-refused limits ws (λ t p. addValue limits t p (c .before .before .before .before .before .before .before .before .args .value)) (settledKeys componentLimit (c .before .before .before .before .before .before .before .before .args .path)) (sym (c .before .before .before .before .before .well-formed .ensures) ∙ c .before .before .before .before .if1 .taken) (c .before .said .given .0 .0) (settled-refused (c .before .before .before .before .before .before .before .before .args .path) (c .before .before .before .settled .result) (c .before .before .before .settled .ensures) (c .before .said .given .0 .0) (c .before .said .given .1)))
+    let c3 = c .before .before .before in
+    let c4 = c3 .before in
+    let c5 = c4 .before in
+    let c8 = c5 .before .before .before in
+    let ws = c8 .args .table .now in
+    left-kept limits ws _ _ _ (call-refused limits ws (λ t p. addValue limits t p (c8 .args .value)) (settledKeys componentLimit (c8 .args .path)) (sym (c5 .well-formed .ensures) ∙ c4 .if1 .taken) (c .before .said .given .0 .0)
+    (settled-refused (c8 .args .path) (c3 .settled .result) (c3 .settled .ensures) (c .before .said .given .0 .0) (c .before .said .given .1)))
 
 same-length-2 : tie.Need-same-length-2
 same-length-2 c = search needs
@@ -63,8 +82,16 @@ same-length-2 c = search needs
 returns-2 : tie.Need-returns-2
 unfolding addValueCall
 returns-2 c =
-    let ws = c .before .before .before .before .before .before .before .before .before .before .before .before .before .before .args .table .now in
-    c .before .before .add-value .ensures ∙ ap (λ (p : List ℕ). left limits ws (addValue limits (decode limits ws) p (c .before .before .before .before .before .before .before .before .before .before .before .before .before .before .args .value))) (c .before .before .before .before .before .keys-of .ensures) ∙ ap (left limits ws) (call-given limits ws (λ t p. addValue limits t p (c .before .before .before .before .before .before .before .before .before .before .before .before .before .before .args .value)) (settledKeys componentLimit (c .before .before .before .before .before .before .before .before .before .before .before .before .before .before .args .path)) (sym (c .before .before .before .before .before .before .before .before .before .before .before .well-formed .ensures) ∙ c .before .before .before .before .before .before .before .before .before .before .if1 .taken) _ ((settled-done (c .before .before .before .before .before .before .before .before .before .before .before .before .before .before .args .path) (c .before .before .before .before .before .before .before .before .before .settled .result) (c .before .before .before .before .before .before .before .before .before .settled .ensures) (c .before .before .before .before .before .before .before .enum-told .given .1)) .1))
+    let c5 = c .before .before .before .before .before in
+    let c7 = c5 .before .before in
+    let c9 = c7 .before .before in
+    let c10 = c9 .before in
+    let c11 = c10 .before in
+    let c14 = c11 .before .before .before in
+    let ws = c14 .args .table .now in
+    c .before .before .add-value .ensures ∙ ap (λ (p : List ℕ). left limits ws (addValue limits (decode limits ws) p (c14 .args .value))) (c5 .keys-of .ensures)
+    ∙ ap (left limits ws) (call-given limits ws (λ t p. addValue limits t p (c14 .args .value)) (settledKeys componentLimit (c14 .args .path)) (sym (c11 .well-formed .ensures) ∙ c10 .if1 .taken) _
+    ((settled-done (c14 .args .path) (c9 .settled .result) (c9 .settled .ensures) (c7 .enum-told .given .1)) .1))
 
 same-length-3 : tie.Need-same-length-3
 same-length-3 c = search needs

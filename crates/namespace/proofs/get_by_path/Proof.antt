@@ -27,8 +27,10 @@ enum-known-found-2 c = search needs
 returns : tie.Need-returns
 unfolding getHandleCall getByPathCall
 returns c =
-    let ws = c .before .before .before .before .before .before .args .table .now in
-    c .read .ensures ∙ then-given limits ws (settledKeys componentLimit (c .before .before .before .before .before .before .args .path)) (λ t p. lookUp t p) (λ t h. valueOf t h) (c .before .before .found .given .0 .0 .0) (sym (ap handleSaid (c .before .before .found .given .1)) ∙ c .before .before .before .before .get-handle .ensures)
+    let c4 = c .before .before .before .before in
+    let c6 = c4 .before .before in
+    let ws = c6 .args .table .now in
+    c .read .ensures ∙ then-given limits ws (settledKeys componentLimit (c6 .args .path)) (λ t p. lookUp t p) (λ t h. valueOf t h) (c .before .before .found .given .0 .0 .0) (sym (ap handleSaid (c .before .before .found .given .1)) ∙ c4 .get-handle .ensures)
 
 returns-2 : tie.Need-returns-2
 unfolding getHandleCall getByPathCall

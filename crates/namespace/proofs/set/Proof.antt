@@ -21,8 +21,11 @@ same-length c = search needs
 returns : tie.Need-returns
 unfolding setCall
 returns c =
-    let ws = c .before .before .before .before .before .before .before .before .args .table .now in
-    c .before .before .write .ensures ∙ ap (left limits ws) (mean-given limits ws (λ t. done (setValue t (c .before .before .before .before .before .before .before .before .args .handle .0) (c .before .before .before .before .before .before .before .before .args .value))) (sym (c .before .before .before .before .before .well-formed .ensures) ∙ c .before .before .before .before .if1 .taken))
+    let c4 = c .before .before .before .before in
+    let c5 = c4 .before in
+    let c8 = c5 .before .before .before in
+    let ws = c8 .args .table .now in
+    c .before .before .write .ensures ∙ ap (left limits ws) (mean-given limits ws (λ t. done (setValue t (c8 .args .handle .0) (c8 .args .value))) (sym (c5 .well-formed .ensures) ∙ c4 .if1 .taken))
 
 same-length-2 : tie.Need-same-length-2
 same-length-2 c = search needs

@@ -19,8 +19,11 @@ enum-known-found c = search needs
 write-requires : tie.Need-write-requires
 unfolding getHandleCall
 write-requires c κs =
-    let ws = c .before .before .before .before .before .before .before .args .table .now in
-    call-formed limits ws (settledKeys componentLimit (c .before .before .before .before .before .before .before .args .path)) (λ t p. lookUp t p) (λ t h. done (setValue t h (c .before .before .before .before .before .before .before .args .value))) (c .before .before .found .given .0 .0 .0) (sym (ap handleSaid (c .before .before .found .given .1)) ∙ c .before .before .before .before .get-handle .ensures)
+    let c4 = c .before .before .before .before in
+    let c7 = c4 .before .before .before in
+    let ws = c7 .args .table .now in
+    call-formed limits ws (settledKeys componentLimit (c7 .args .path)) (λ t p. lookUp t p) (λ t h. done (setValue t h (c7 .args .value))) (c .before .before .found .given .0 .0 .0)
+    (sym (ap handleSaid (c .before .before .found .given .1)) ∙ c4 .get-handle .ensures)
 
 enum-known-found-2 : tie.Need-enum-known-found-2
 enum-known-found-2 c = search needs
@@ -31,8 +34,12 @@ same-length c = search needs
 returns : tie.Need-returns
 unfolding getHandleCall setByPathCall
 returns c =
-    let ws = c .before .before .before .before .before .before .before .before .before .before .args .table .now in
-    c .before .before .write .ensures ∙ ap (left limits ws) (then-given limits ws (settledKeys componentLimit (c .before .before .before .before .before .before .before .before .before .before .args .path)) (λ t p. lookUp t p) (λ t h. done (setValue t h (c .before .before .before .before .before .before .before .before .before .before .args .value))) (c .before .before .before .before .before .found .given .0 .0 .0) (sym (ap handleSaid (c .before .before .before .before .before .found .given .1)) ∙ c .before .before .before .before .before .before .before .get-handle .ensures))
+    let c5 = c .before .before .before .before .before in
+    let c7 = c5 .before .before in
+    let c10 = c7 .before .before .before in
+    let ws = c10 .args .table .now in
+    c .before .before .write .ensures ∙ ap (left limits ws) (then-given limits ws (settledKeys componentLimit (c10 .args .path)) (λ t p. lookUp t p) (λ t h. done (setValue t h (c10 .args .value))) (c5 .found .given .0 .0 .0)
+    (sym (ap handleSaid (c5 .found .given .1)) ∙ c7 .get-handle .ensures))
 
 same-length-2 : tie.Need-same-length-2
 same-length-2 c = search needs
@@ -40,8 +47,10 @@ same-length-2 c = search needs
 returns-2 : tie.Need-returns-2
 unfolding getHandleCall setByPathCall
 returns-2 c =
-    let ws = c .before .before .before .before .before .before .args .table .now in
-    left-kept limits ws _ _ _ (then-refused limits ws (settledKeys componentLimit (c .before .before .before .before .before .before .args .path)) (λ t p. lookUp t p) (λ t h. done (setValue t h (c .before .before .before .before .before .before .args .value))) _ _ (sym (ap handleSaid (c .before .found2 .given .1)) ∙ c .before .before .before .get-handle .ensures))
+    let c3 = c .before .before .before in
+    let c6 = c3 .before .before .before in
+    let ws = c6 .args .table .now in
+    left-kept limits ws _ _ _ (then-refused limits ws (settledKeys componentLimit (c6 .args .path)) (λ t p. lookUp t p) (λ t h. done (setValue t h (c6 .args .value))) _ _ (sym (ap handleSaid (c .before .found2 .given .1)) ∙ c3 .get-handle .ensures))
 
 pub set-by-path-spec : {M : Type 1} → statement M
 set-by-path-spec =

@@ -51,8 +51,11 @@ add-result-3 c = search needs
 
 returns : tie.Need-returns
 returns c =
-    let len : length (c .before .before .before .before .before .before .before .before .args .t1 .bytes) ≡ 128 = search needs in
-    (λ k. number (c .before .before .before .before .before .before .wide .ensures .0 k) (c .before .before .before .before .wide2 .ensures .0 k) (c .before .before .wide3 .ensures .0 k) (c .wide4 .ensures .0 k)) ∙ sym (bare-number (c .before .before .before .before .before .before .before .before .args .t1) len (c .before .before .before .before .before .before .before .before .pre))
+    let c4 = c .before .before .before .before in
+    let c6 = c4 .before .before in
+    let c8 = c6 .before .before in
+    let len : length (c8 .args .t1 .bytes) ≡ 128 = search needs in
+    (λ k. number (c6 .wide .ensures .0 k) (c4 .wide2 .ensures .0 k) (c .before .before .wide3 .ensures .0 k) (c .wide4 .ensures .0 k)) ∙ sym (bare-number (c8 .args .t1) len (c8 .pre))
 
 pub bare-key-spec : {M : Type 1} → statement M
 bare-key-spec =

@@ -48,18 +48,35 @@ no-level-requires c κs = search needs
 
 returns : tie.Need-returns
 returns c =
-    let ws = c .before .before .before .before .before .before .before .before .args .table .now in
-    c .no-level .ensures ∙ ap (told componentLimit) (sym (level-none ws (c .before .before .before .before .before .before .before .before .pre .0) (c .before .before .before .before .before .before .before .before .args .scope) (c .before .before .before .before .before .before .before .before .pre .2) (firstOf (pathOf (c .before .before .before .before .before .before .before .before .args .path))) (c .before .before .nearest-level .result) (c .before .before .nearest-level .ensures ∙ ap₂ (λ (k : ℕ) (p : List ℕ). nearLevelIn k p (take 128 ws) 0 0) (c .before .before .before .before .before .bare-key .ensures) (c .before .before .before .before .before .before .keys-of .ensures)) (c .before .if1 .taken)))
+    let c5 = c .before .before .before .before .before in
+    let c6 = c5 .before in
+    let c8 = c6 .before .before in
+    let ws = c8 .args .table .now in
+    c .no-level .ensures ∙ ap (told componentLimit) (sym (level-none ws (c8 .pre .0) (c8 .args .scope) (c8 .pre .2) (firstOf (pathOf (c8 .args .path))) (c .before .before .nearest-level .result)
+    (c .before .before .nearest-level .ensures ∙ ap₂ (λ (k : ℕ) (p : List ℕ). nearLevelIn k p (take 128 ws) 0 0) (c5 .bare-key .ensures) (c6 .keys-of .ensures)) (c .before .if1 .taken)))
 
 full-name-requires : tie.Need-full-name-requires
 full-name-requires c κs =
-    let ws = c .before .before .before .before .before .before .before .args .table .now in
-    (c .before .before .before .before .before .before .before .pre .2, c .before .before .before .before .before .before .before .pre .1, level-range ws (c .before .before .before .before .before .before .before .pre .0) (c .before .before .before .before .before .before .before .args .scope) (c .before .before .before .before .before .before .before .pre .2) (firstOf (pathOf (c .before .before .before .before .before .before .before .args .path))) (c .before .nearest-level .result) (c .before .nearest-level .ensures ∙ ap₂ (λ (k : ℕ) (p : List ℕ). nearLevelIn k p (take 128 ws) 0 0) (c .before .before .before .before .bare-key .ensures) (c .before .before .before .before .before .keys-of .ensures)) (c .if1 .left) .0, level-range ws (c .before .before .before .before .before .before .before .pre .0) (c .before .before .before .before .before .before .before .args .scope) (c .before .before .before .before .before .before .before .pre .2) (firstOf (pathOf (c .before .before .before .before .before .before .before .args .path))) (c .before .nearest-level .result) (c .before .nearest-level .ensures ∙ ap₂ (λ (k : ℕ) (p : List ℕ). nearLevelIn k p (take 128 ws) 0 0) (c .before .before .before .before .bare-key .ensures) (c .before .before .before .before .before .keys-of .ensures)) (c .if1 .left) .1)
+    let c4 = c .before .before .before .before in
+    let c5 = c4 .before in
+    let c7 = c5 .before .before in
+    let ws = c7 .args .table .now in
+    let h1 = c .before .nearest-level .ensures ∙ ap₂ (λ (k : ℕ) (p : List ℕ). nearLevelIn k p (take 128 ws) 0 0) (c4 .bare-key .ensures) (c5 .keys-of .ensures) in (
+      c7 .pre .2,
+      c7 .pre .1,
+      level-range ws (c7 .pre .0) (c7 .args .scope) (c7 .pre .2) (firstOf (pathOf (c7 .args .path))) (c .before .nearest-level .result) h1 (c .if1 .left) .0,
+      level-range ws (c7 .pre .0) (c7 .args .scope)
+          (c7 .pre .2) (firstOf (pathOf (c7 .args .path))) (c .before .nearest-level .result) h1 (c .if1 .left) .1,
+    )
 
 sub-t16 : tie.Need-sub-t16
 sub-t16 c =
-    let ws = c .before .before .before .before .before .before .before .before .args .table .now in
-    level-range ws (c .before .before .before .before .before .before .before .before .pre .0) (c .before .before .before .before .before .before .before .before .args .scope) (c .before .before .before .before .before .before .before .before .pre .2) (firstOf (pathOf (c .before .before .before .before .before .before .before .before .args .path))) (c .before .before .nearest-level .result) (c .before .before .nearest-level .ensures ∙ ap₂ (λ (k : ℕ) (p : List ℕ). nearLevelIn k p (take 128 ws) 0 0) (c .before .before .before .before .before .bare-key .ensures) (c .before .before .before .before .before .before .keys-of .ensures)) (c .before .if1 .left) .0
+    let c5 = c .before .before .before .before .before in
+    let c6 = c5 .before in
+    let c8 = c6 .before .before in
+    let ws = c8 .args .table .now in
+    level-range ws (c8 .pre .0) (c8 .args .scope) (c8 .pre .2) (firstOf (pathOf (c8 .args .path))) (c .before .before .nearest-level .result)
+    (c .before .before .nearest-level .ensures ∙ ap₂ (λ (k : ℕ) (p : List ℕ). nearLevelIn k p (take 128 ws) 0 0) (c5 .bare-key .ensures) (c6 .keys-of .ensures)) (c .before .if1 .left) .0
 
 add-t17 : tie.Need-add-t17
 add-t17 c =
@@ -68,8 +85,12 @@ add-t17 c =
 
 returns-2 : tie.Need-returns-2
 returns-2 c =
-    let ws = c .before .before .before .before .before .before .before .before .args .table .now in
-    level-found ws (c .before .before .before .before .before .before .before .before .pre .0) (c .before .before .before .before .before .before .before .before .args .scope) (c .before .before .before .before .before .before .before .before .pre .2) (firstOf (pathOf (c .before .before .before .before .before .before .before .before .args .path))) (c .before .before .nearest-level .result) (c .before .before .nearest-level .ensures ∙ ap₂ (λ (k : ℕ) (p : List ℕ). nearLevelIn k p (take 128 ws) 0 0) (c .before .before .before .before .before .bare-key .ensures) (c .before .before .before .before .before .before .keys-of .ensures)) (c .before .if1 .left) (c .full-name .result) (c .full-name .ensures)
+    let c5 = c .before .before .before .before .before in
+    let c6 = c5 .before in
+    let c8 = c6 .before .before in
+    let ws = c8 .args .table .now in
+    level-found ws (c8 .pre .0) (c8 .args .scope) (c8 .pre .2) (firstOf (pathOf (c8 .args .path))) (c .before .before .nearest-level .result)
+    (c .before .before .nearest-level .ensures ∙ ap₂ (λ (k : ℕ) (p : List ℕ). nearLevelIn k p (take 128 ws) 0 0) (c5 .bare-key .ensures) (c6 .keys-of .ensures)) (c .before .if1 .left) (c .full-name .result) (c .full-name .ensures)
 
 pub level-up-spec : {M : Type 1} → statement M
 level-up-spec =

@@ -14,8 +14,10 @@ enum-known-found c = search needs
 
 cast-t7 : tie.Need-cast-t7
 cast-t7 c =
-    let ws = c .before .before .before .before .before .before .args .table .now in
-    omega (arith, looked-bound limits (omega arith) ws (c .before .before .before .before .before .before .pre .0) (c .before .before .before .before .before .before .args .path .now) (c .before .before .before .find-spot .result) (c .before .before .before .find-spot .ensures) (c .before .found .given .0 .0) (c .before .found .given .1) .1)
+    let c3 = c .before .before .before in
+    let c6 = c3 .before .before .before in
+    let ws = c6 .args .table .now in
+    omega (arith, looked-bound limits (omega arith) ws (c6 .pre .0) (c6 .args .path .now) (c3 .find-spot .result) (c3 .find-spot .ensures) (c .before .found .given .0 .0) (c .before .found .given .1) .1)
 
 enum-told : tie.Need-enum-told
 enum-told c = search needs
@@ -25,8 +27,10 @@ enum-known-found-2 c = search needs
 
 returns : tie.Need-returns
 returns c =
-    let ws = c .before .before .before .before .before .before .args .table .now in
-    looked-bound limits (omega arith) ws (c .before .before .before .before .before .before .pre .0) (c .before .before .before .before .before .before .args .path .now) (c .before .before .before .find-spot .result) (c .before .before .before .find-spot .ensures) (c .before .found .given .0 .0) (c .before .found .given .1) .0
+    let c3 = c .before .before .before in
+    let c6 = c3 .before .before .before in
+    let ws = c6 .args .table .now in
+    looked-bound limits (omega arith) ws (c6 .pre .0) (c6 .args .path .now) (c3 .find-spot .result) (c3 .find-spot .ensures) (c .before .found .given .0 .0) (c .before .found .given .1) .0
 
 returns-2 : tie.Need-returns-2
 returns-2 c =
@@ -35,8 +39,10 @@ returns-2 c =
 
 returns-3 : tie.Need-returns-3
 returns-3 c =
-    let ws = c .before .before .before .before .before .before .args .table .now in
-    looked-refused limits (omega arith) ws (c .before .before .before .before .before .before .pre .0) (c .before .before .before .before .before .before .args .path .now) (c .before .before .before .find-spot .result) (c .before .before .before .find-spot .ensures) (c .before .found2 .given .0 .0) (c .before .found2 .given .1)
+    let c3 = c .before .before .before in
+    let c6 = c3 .before .before .before in
+    let ws = c6 .args .table .now in
+    looked-refused limits (omega arith) ws (c6 .pre .0) (c6 .args .path .now) (c3 .find-spot .result) (c3 .find-spot .ensures) (c .before .found2 .given .0 .0) (c .before .found2 .given .1)
 
 pub look-up-spec : {M : Type 1} → statement M
 look-up-spec =

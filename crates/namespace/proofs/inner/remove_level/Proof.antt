@@ -43,8 +43,15 @@ slice-aggregate-subtree c =
 
 subtree-requires : tie.Need-subtree-requires
 subtree-requires c κs =
-    let ws = c .before .before .before .before .before .before .before .before .before .args .table .now in
-    (removed-place limits (omega arith) ws (c .before .before .before .before .before .before .before .before .before .pre .0) (c .before .before .before .before .before .before .before .before .before .args .path .now) (omega arith) (c .before .before .before .before .seek .result) (c .before .before .before .before .seek .ensures) (c .before .before .found .given .0 .0) (c .before .before .found .given .0 .1 .0) (c .before .before .found .given .1) .0, omega (arith, length-ls limits (omega arith) ws (c .before .before .before .before .before .before .before .before .before .pre .0)), from-is limits (omega arith) ws (c .before .before .before .before .before .before .before .before .before .pre .0) (c .before .before .before .before .before .before .before .before .before .args .path .now) (omega arith) (c .before .before .before .before .seek .result) (c .before .before .before .before .seek .ensures) (c .before .before .found .given .0 .0) (c .before .before .found .given .0 .1 .0) (c .before .before .found .given .1))
+    let c4 = c .before .before .before .before in
+    let c9 = c4 .before .before .before .before .before in
+    let ws = c9 .args .table .now in (
+      removed-place limits (omega arith) ws (c9 .pre .0) (c9 .args .path .now) (omega arith) (c4 .seek .result) (c4 .seek .ensures) (c .before .before .found .given .0 .0) (c .before .before .found .given .0 .1 .0)
+          (c .before .before .found .given .1) .0,
+      omega (arith, length-ls limits (omega arith) ws (c9 .pre .0)),
+      from-is limits (omega arith) ws (c9 .pre .0) (c9 .args .path .now) (omega arith) (c4 .seek .result) (c4 .seek .ensures)
+          (c .before .before .found .given .0 .0) (c .before .before .found .given .0 .1 .0) (c .before .before .found .given .1),
+    )
 
 slice-relend-prefix-close-gap : tie.Need-slice-relend-prefix-close-gap
 slice-relend-prefix-close-gap c =
@@ -58,8 +65,11 @@ slice-aggregate-close-gap c =
 
 close-gap-requires : tie.Need-close-gap-requires
 close-gap-requires c κs =
-    let ws = c .before .before .before .before .before .before .before .before .before .before .before .args .table .now in
-    run-fits limits (omega arith) ws (c .before .before .before .before .before .before .before .before .before .before .before .pre .0) (c .before .before .before .before .before .before .before .before .before .before .before .args .path .now) (omega arith) (c .before .before .before .before .before .before .seek .result) (c .before .before .before .before .before .before .seek .ensures) (c .before .before .before .before .found .given .0 .0) (c .before .before .before .before .found .given .0 .1 .0) (c .before .before .before .before .found .given .1) (c .before .subtree .result) (c .before .subtree .ensures)
+    let c4 = c .before .before .before .before in
+    let c6 = c4 .before .before in
+    let c11 = c6 .before .before .before .before .before in
+    let ws = c11 .args .table .now in
+    run-fits limits (omega arith) ws (c11 .pre .0) (c11 .args .path .now) (omega arith) (c6 .seek .result) (c6 .seek .ensures) (c4 .found .given .0 .0) (c4 .found .given .0 .1 .0) (c4 .found .given .1) (c .before .subtree .result) (c .before .subtree .ensures)
 
 sub-close-gap : tie.Need-sub-close-gap
 sub-close-gap c = search needs
@@ -69,13 +79,24 @@ part-close-gap-start c = search needs
 
 part-close-gap-end : tie.Need-part-close-gap-end
 part-close-gap-end c =
-    let ws = c .before .before .before .before .before .before .before .before .before .before .before .before .before .before .args .table .now in
-    moved-long limits (omega arith) ws (c .before .before .before .before .before .before .before .before .before .before .before .before .before .before .pre .0) (c .before .before .before .before .before .before .before .before .before .before .before .before .before .before .args .path .now) (omega arith) (c .before .before .before .before .before .before .before .before .before .seek .result) (c .before .before .before .before .before .before .before .before .before .seek .ensures) (c .before .before .before .before .before .before .before .found .given .0 .0) (c .before .before .before .before .before .before .before .found .given .0 .1 .0) (c .before .before .before .before .before .before .before .found .given .1) (c .before .before .before .before .subtree .result) (c .before .before .before .before .subtree .ensures) (c .before .before .close-gap .last .0) (c .before .before .close-gap .ensures)
+    let c4 = c .before .before .before .before in
+    let c7 = c4 .before .before .before in
+    let c9 = c7 .before .before in
+    let c14 = c9 .before .before .before .before .before in
+    let ws = c14 .args .table .now in
+    moved-long limits (omega arith) ws (c14 .pre .0) (c14 .args .path .now) (omega arith) (c9 .seek .result) (c9 .seek .ensures) (c7 .found .given .0 .0) (c7 .found .given .0 .1 .0) (c7 .found .given .1) (c4 .subtree .result)
+    (c4 .subtree .ensures) (c .before .before .close-gap .last .0) (c .before .before .close-gap .ensures)
 
 close-gap-requires-2 : tie.Need-close-gap-requires-2
 close-gap-requires-2 c κs =
-    let ws = c .before .before .before .before .before .before .before .before .before .before .before .before .before .before .before .args .table .now in
-    moved-range limits (omega arith) ws (c .before .before .before .before .before .before .before .before .before .before .before .before .before .before .before .pre .0) (c .before .before .before .before .before .before .before .before .before .before .before .before .before .before .before .args .path .now) (omega arith) (c .before .before .before .before .before .before .before .before .before .before .seek .result) (c .before .before .before .before .before .before .before .before .before .before .seek .ensures) (c .before .before .before .before .before .before .before .before .found .given .0 .0) (c .before .before .before .before .before .before .before .before .found .given .0 .1 .0) (c .before .before .before .before .before .before .before .before .found .given .1) (c .before .before .before .before .before .subtree .result) (c .before .before .before .before .before .subtree .ensures) (c .before .before .before .close-gap .last .0) (c .before .before .before .close-gap .ensures)
+    let c3 = c .before .before .before in
+    let c5 = c3 .before .before in
+    let c8 = c5 .before .before .before in
+    let c10 = c8 .before .before in
+    let c15 = c10 .before .before .before .before .before in
+    let ws = c15 .args .table .now in
+    moved-range limits (omega arith) ws (c15 .pre .0) (c15 .args .path .now) (omega arith) (c10 .seek .result) (c10 .seek .ensures) (c8 .found .given .0 .0) (c8 .found .given .0 .1 .0) (c8 .found .given .1) (c5 .subtree .result)
+    (c5 .subtree .ensures) (c3 .close-gap .last .0) (c3 .close-gap .ensures)
 
 enum-told : tie.Need-enum-told
 enum-told c = search needs
@@ -91,8 +112,14 @@ same-length c = search needs
 
 returns-2 : tie.Need-returns-2
 returns-2 c =
-    let ws = c .before .before .before .before .before .before .before .before .before .before .before .before .before .before .before .before .before .before .args .table .now in
-    moved limits (omega arith) ws (c .before .before .before .before .before .before .before .before .before .before .before .before .before .before .before .before .before .before .pre .0) (c .before .before .before .before .before .before .before .before .before .before .before .before .before .before .before .before .before .before .args .path .now) (omega arith) (c .before .before .before .before .before .before .before .before .before .before .before .before .before .seek .result) (c .before .before .before .before .before .before .before .before .before .before .before .before .before .seek .ensures) (c .before .before .before .before .before .before .before .before .before .before .before .found .given .0 .0) (c .before .before .before .before .before .before .before .before .before .before .before .found .given .0 .1 .0) (c .before .before .before .before .before .before .before .before .before .before .before .found .given .1) (c .before .before .before .before .before .before .before .before .subtree .result) (c .before .before .before .before .before .before .before .before .subtree .ensures) (c .before .before .before .before .before .before .close-gap .last .0) (c .before .before .before .before .before .before .close-gap .ensures) _ (c .before .before .close-gap2 .ensures)
+    let c6 = c .before .before .before .before .before .before in
+    let c8 = c6 .before .before in
+    let c11 = c8 .before .before .before in
+    let c13 = c11 .before .before in
+    let c18 = c13 .before .before .before .before .before in
+    let ws = c18 .args .table .now in
+    moved limits (omega arith) ws (c18 .pre .0) (c18 .args .path .now) (omega arith) (c13 .seek .result) (c13 .seek .ensures) (c11 .found .given .0 .0) (c11 .found .given .0 .1 .0) (c11 .found .given .1) (c8 .subtree .result)
+    (c8 .subtree .ensures) (c6 .close-gap .last .0) (c6 .close-gap .ensures) _ (c .before .before .close-gap2 .ensures)
 
 same-length-2 : tie.Need-same-length-2
 same-length-2 c = search needs
@@ -107,8 +134,10 @@ same-length-3 c = search needs
 
 returns-4 : tie.Need-returns-4
 returns-4 c =
-    let ws = c .before .before .before .before .before .before .before .before .args .table .now in
-    removed-missing limits (omega arith) ws (c .before .before .before .before .before .before .before .before .pre .0) (c .before .before .before .before .before .before .before .before .args .path .now) (omega arith) (c .before .before .before .seek .result) (c .before .before .before .seek .ensures) (c .before .found2 .given .0 .0) (c .before .found2 .given .1)
+    let c3 = c .before .before .before in
+    let c8 = c3 .before .before .before .before .before in
+    let ws = c8 .args .table .now in
+    removed-missing limits (omega arith) ws (c8 .pre .0) (c8 .args .path .now) (omega arith) (c3 .seek .result) (c3 .seek .ensures) (c .before .found2 .given .0 .0) (c .before .found2 .given .1)
 
 pub remove-level-spec : {M : Type 1} → statement M
 remove-level-spec =

@@ -26,26 +26,43 @@ is-bare-requires c κs = c .before .before .before .before .before .pre .1
 
 search-up-requires : tie.Need-search-up-requires
 search-up-requires c κs =
-    (c .before .before .before .before .before .before .before .pre .0, record { path = c .before .before .before .before .before .before .before .pre .1; alone = sym (c .before .is-bare .ensures) ∙ c .if1 .taken }, (settled-given (c .before .before .before .before .before .before .before .args .starting-scope) (c .before .before .before .before .before .settled .result) (c .before .before .before .before .before .settled .ensures) (c .before .before .before .enum-told .given .1)) .0)
+    let c3 = c .before .before .before in
+    let c5 = c3 .before .before in
+    let c7 = c5 .before .before in
+    (c7 .pre .0, record { path = c7 .pre .1; alone = sym (c .before .is-bare .ensures) ∙ c .if1 .taken }, (settled-given (c7 .args .starting-scope) (c5 .settled .result) (c5 .settled .ensures) (c3 .enum-told .given .1)) .0)
 
 search-once-requires : tie.Need-search-once-requires
 search-once-requires c κs =
-    (c .before .before .before .before .before .before .before .pre .0, c .before .before .before .before .before .before .before .pre .1, (settled-given (c .before .before .before .before .before .before .before .args .starting-scope) (c .before .before .before .before .before .settled .result) (c .before .before .before .before .before .settled .ensures) (c .before .before .before .enum-told .given .1)) .0)
+    let c3 = c .before .before .before in
+    let c5 = c3 .before .before in
+    let c7 = c5 .before .before in
+    (c7 .pre .0, c7 .pre .1, (settled-given (c7 .args .starting-scope) (c5 .settled .result) (c5 .settled .ensures) (c3 .enum-told .given .1)) .0)
 
 returns : tie.Need-returns
 returns c =
-    let ws = c .before .before .before .before .before .before .args .table .now in
-    c .not-found .ensures ∙ ap (told componentLimit) (search-scope limits ws (c .before .before .before .before .before .before .args .path) (c .before .before .before .before .before .before .args .starting-scope) (c .before .before .before .before .before .before .pre .0) (c .before .before .before .before .before .before .pre .1) (c .before .before .said .given .0 .0) (settled-lost (c .before .before .before .before .before .before .args .starting-scope) (c .before .before .before .before .settled .result) (c .before .before .before .before .settled .ensures) (c .before .before .said .given .0 .0) (c .before .before .said .given .1)))
+    let c4 = c .before .before .before .before in
+    let c6 = c4 .before .before in
+    let ws = c6 .args .table .now in
+    c .not-found .ensures ∙ ap (told componentLimit) (search-scope limits ws (c6 .args .path) (c6 .args .starting-scope) (c6 .pre .0) (c6 .pre .1) (c .before .before .said .given .0 .0)
+    (settled-lost (c6 .args .starting-scope) (c4 .settled .result) (c4 .settled .ensures) (c .before .before .said .given .0 .0) (c .before .before .said .given .1)))
 
 returns-2 : tie.Need-returns-2
 returns-2 c =
-    let ws = c .before .before .before .before .before .before .before .before .args .table .now in
-    c .search-up .ensures ∙ ap (told componentLimit) (search-bare limits ws (c .before .before .before .before .before .before .before .before .args .path) (c .before .before .before .before .before .before .before .before .args .starting-scope) (c .before .before .before .before .before .before .before .before .pre .0) (c .before .before .before .before .before .before .before .before .pre .1) (pathOf (c .before .before .before .before .before .before .settled .result .name)) ((settled-given (c .before .before .before .before .before .before .before .before .args .starting-scope) (c .before .before .before .before .before .before .settled .result) (c .before .before .before .before .before .before .settled .ensures) (c .before .before .before .before .enum-told .given .1)) .1) (sym (c .before .before .is-bare .ensures) ∙ c .before .if1 .taken))
+    let c4 = c .before .before .before .before in
+    let c6 = c4 .before .before in
+    let c8 = c6 .before .before in
+    let ws = c8 .args .table .now in
+    c .search-up .ensures ∙ ap (told componentLimit) (search-bare limits ws (c8 .args .path) (c8 .args .starting-scope) (c8 .pre .0) (c8 .pre .1) (pathOf (c6 .settled .result .name))
+    ((settled-given (c8 .args .starting-scope) (c6 .settled .result) (c6 .settled .ensures) (c4 .enum-told .given .1)) .1) (sym (c .before .before .is-bare .ensures) ∙ c .before .if1 .taken))
 
 returns-3 : tie.Need-returns-3
 returns-3 c =
-    let ws = c .before .before .before .before .before .before .before .before .args .table .now in
-    c .search-once .ensures ∙ ap (told componentLimit) (search-other limits ws (c .before .before .before .before .before .before .before .before .args .path) (c .before .before .before .before .before .before .before .before .args .starting-scope) (c .before .before .before .before .before .before .before .before .pre .0) (c .before .before .before .before .before .before .before .before .pre .1) (pathOf (c .before .before .before .before .before .before .settled .result .name)) ((settled-given (c .before .before .before .before .before .before .before .before .args .starting-scope) (c .before .before .before .before .before .before .settled .result) (c .before .before .before .before .before .before .settled .ensures) (c .before .before .before .before .enum-told .given .1)) .1) (sym (c .before .before .is-bare .ensures) ∙ c .before .if1 .left))
+    let c4 = c .before .before .before .before in
+    let c6 = c4 .before .before in
+    let c8 = c6 .before .before in
+    let ws = c8 .args .table .now in
+    c .search-once .ensures ∙ ap (told componentLimit) (search-other limits ws (c8 .args .path) (c8 .args .starting-scope) (c8 .pre .0) (c8 .pre .1) (pathOf (c6 .settled .result .name))
+    ((settled-given (c8 .args .starting-scope) (c6 .settled .result) (c6 .settled .ensures) (c4 .enum-told .given .1)) .1) (sym (c .before .before .is-bare .ensures) ∙ c .before .if1 .left))
 
 pub search-spec : {M : Type 1} → statement M
 search-spec =

@@ -23,17 +23,25 @@ enum-told c = search needs
 
 level-up-requires : tie.Need-level-up-requires
 level-up-requires c κs =
-    (c .before .before .before .before .before .pre .0, c .before .before .before .before .before .pre .1, (settled-given (c .before .before .before .before .before .args .starting-scope) (c .before .before .before .settled .result) (c .before .before .before .settled .ensures) (c .before .enum-told .given .1)) .0)
+    let c3 = c .before .before .before in
+    let c5 = c3 .before .before in
+    (c5 .pre .0, c5 .pre .1, (settled-given (c5 .args .starting-scope) (c3 .settled .result) (c3 .settled .ensures) (c .before .enum-told .given .1)) .0)
 
 returns : tie.Need-returns
 returns c =
-    let ws = c .before .before .before .before .before .before .args .table .now in
-    c .no-level .ensures ∙ ap (told componentLimit) (level-scope limits ws (c .before .before .before .before .before .before .args .level-name) (c .before .before .before .before .before .before .args .starting-scope) (c .before .before .before .before .before .before .pre .0) (c .before .before .before .before .before .before .pre .1 .path) (c .before .before .before .before .before .before .pre .1 .alone) (c .before .before .said .given .0 .0) (settled-lost (c .before .before .before .before .before .before .args .starting-scope) (c .before .before .before .before .settled .result) (c .before .before .before .before .settled .ensures) (c .before .before .said .given .0 .0) (c .before .before .said .given .1)))
+    let c4 = c .before .before .before .before in
+    let c6 = c4 .before .before in
+    let ws = c6 .args .table .now in
+    c .no-level .ensures ∙ ap (told componentLimit) (level-scope limits ws (c6 .args .level-name) (c6 .args .starting-scope) (c6 .pre .0) (c6 .pre .1 .path) (c6 .pre .1 .alone) (c .before .before .said .given .0 .0)
+    (settled-lost (c6 .args .starting-scope) (c4 .settled .result) (c4 .settled .ensures) (c .before .before .said .given .0 .0) (c .before .before .said .given .1)))
 
 returns-2 : tie.Need-returns-2
 returns-2 c =
-    let ws = c .before .before .before .before .before .before .args .table .now in
-    c .level-up .ensures ∙ ap (told componentLimit) (level-bare limits ws (c .before .before .before .before .before .before .args .level-name) (c .before .before .before .before .before .before .args .starting-scope) (c .before .before .before .before .before .before .pre .0) (c .before .before .before .before .before .before .pre .1 .path) (c .before .before .before .before .before .before .pre .1 .alone) (pathOf (c .before .before .before .before .settled .result .name)) ((settled-given (c .before .before .before .before .before .before .args .starting-scope) (c .before .before .before .before .settled .result) (c .before .before .before .before .settled .ensures) (c .before .before .enum-told .given .1)) .1))
+    let c4 = c .before .before .before .before in
+    let c6 = c4 .before .before in
+    let ws = c6 .args .table .now in
+    c .level-up .ensures ∙ ap (told componentLimit) (level-bare limits ws (c6 .args .level-name) (c6 .args .starting-scope) (c6 .pre .0) (c6 .pre .1 .path) (c6 .pre .1 .alone) (pathOf (c4 .settled .result .name))
+    ((settled-given (c6 .args .starting-scope) (c4 .settled .result) (c4 .settled .ensures) (c .before .before .enum-told .given .1)) .1))
 
 pub search-level-up-spec : {M : Type 1} → statement M
 search-level-up-spec =

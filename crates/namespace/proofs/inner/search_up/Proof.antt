@@ -63,23 +63,49 @@ not-found-requires c κs = search needs
 
 returns : tie.Need-returns
 returns c =
-    let ws = c .before .before .before .before .before .before .before .before .before .args .table .now in
-    c .not-found .ensures ∙ ap (told componentLimit) (sym (up-none ws (c .before .before .before .before .before .before .before .before .before .pre .0) (c .before .before .before .before .before .before .before .before .before .args .scope) (c .before .before .before .before .before .before .before .before .before .pre .2) (firstOf (pathOf (c .before .before .before .before .before .before .before .before .before .args .path))) (c .before .before .nearest-value .result) (c .before .before .nearest-value .ensures ∙ ap₂ (λ (k : ℕ) (p : List ℕ). nearIn k p (take 128 ws) (take 512 (drop 128 ws)) 0 0 farthest) (c .before .before .before .before .before .before .bare-key .ensures) (c .before .before .before .before .before .before .before .keys-of .ensures)) (c .before .if1 .taken)))
+    let c6 = c .before .before .before .before .before .before in
+    let c7 = c6 .before in
+    let c9 = c7 .before .before in
+    let ws = c9 .args .table .now in
+    c .not-found .ensures ∙ ap (told componentLimit) (sym (up-none ws (c9 .pre .0) (c9 .args .scope) (c9 .pre .2) (firstOf (pathOf (c9 .args .path))) (c .before .before .nearest-value .result)
+    (c .before .before .nearest-value .ensures ∙ ap₂ (λ (k : ℕ) (p : List ℕ). nearIn k p (take 128 ws) (take 512 (drop 128 ws)) 0 0 farthest) (c6 .bare-key .ensures) (c7 .keys-of .ensures)) (c .before .if1 .taken)))
 
 full-name-requires : tie.Need-full-name-requires
 full-name-requires c κs =
-    let ws = c .before .before .before .before .before .before .before .before .args .table .now in
-    (c .before .before .before .before .before .before .before .before .pre .2, c .before .before .before .before .before .before .before .before .pre .1, up-range ws (c .before .before .before .before .before .before .before .before .pre .0) (c .before .before .before .before .before .before .before .before .args .scope) (c .before .before .before .before .before .before .before .before .pre .2) (firstOf (pathOf (c .before .before .before .before .before .before .before .before .args .path))) (c .before .nearest-value .result) (c .before .nearest-value .ensures ∙ ap₂ (λ (k : ℕ) (p : List ℕ). nearIn k p (take 128 ws) (take 512 (drop 128 ws)) 0 0 farthest) (c .before .before .before .before .before .bare-key .ensures) (c .before .before .before .before .before .before .keys-of .ensures)) (c .if1 .left) .0, up-range ws (c .before .before .before .before .before .before .before .before .pre .0) (c .before .before .before .before .before .before .before .before .args .scope) (c .before .before .before .before .before .before .before .before .pre .2) (firstOf (pathOf (c .before .before .before .before .before .before .before .before .args .path))) (c .before .nearest-value .result) (c .before .nearest-value .ensures ∙ ap₂ (λ (k : ℕ) (p : List ℕ). nearIn k p (take 128 ws) (take 512 (drop 128 ws)) 0 0 farthest) (c .before .before .before .before .before .bare-key .ensures) (c .before .before .before .before .before .before .keys-of .ensures)) (c .if1 .left) .1)
+    let c5 = c .before .before .before .before .before in
+    let c6 = c5 .before in
+    let c8 = c6 .before .before in
+    let ws = c8 .args .table .now in
+    let h1 = c .before .nearest-value .ensures ∙ ap₂ (λ (k : ℕ) (p : List ℕ). nearIn k p (take 128 ws) (take 512 (drop 128 ws)) 0 0 farthest) (c5 .bare-key .ensures) (c6 .keys-of .ensures) in (
+      c8 .pre .2,
+      c8 .pre .1,
+      up-range ws (c8 .pre .0) (c8 .args .scope) (c8 .pre .2) (firstOf (pathOf (c8 .args .path))) (c .before .nearest-value .result) h1 (c .if1 .left) .0,
+      up-range ws (c8 .pre .0) (c8 .args .scope) (c8 .pre .2)
+          (firstOf (pathOf (c8 .args .path))) (c .before .nearest-value .result) h1 (c .if1 .left) .1,
+    )
 
 cast-t21 : tie.Need-cast-t21
 cast-t21 c =
-    let ws = c .before .before .before .before .before .before .before .before .before .before .args .table .now in
-    omega (arith, up-range ws (c .before .before .before .before .before .before .before .before .before .before .pre .0) (c .before .before .before .before .before .before .before .before .before .before .args .scope) (c .before .before .before .before .before .before .before .before .before .before .pre .2) (firstOf (pathOf (c .before .before .before .before .before .before .before .before .before .before .args .path))) (c .before .before .before .nearest-value .result) (c .before .before .before .nearest-value .ensures ∙ ap₂ (λ (k : ℕ) (p : List ℕ). nearIn k p (take 128 ws) (take 512 (drop 128 ws)) 0 0 farthest) (c .before .before .before .before .before .before .before .bare-key .ensures) (c .before .before .before .before .before .before .before .before .keys-of .ensures)) (c .before .before .if1 .left) .2)
+    let c3 = c .before .before .before in
+    let c7 = c3 .before .before .before .before in
+    let c8 = c7 .before in
+    let c10 = c8 .before .before in
+    let ws = c10 .args .table .now in
+    omega (
+      arith,
+      up-range ws (c10 .pre .0) (c10 .args .scope) (c10 .pre .2) (firstOf (pathOf (c10 .args .path))) (c3 .nearest-value .result)
+          (c3 .nearest-value .ensures ∙ ap₂ (λ (k : ℕ) (p : List ℕ). nearIn k p (take 128 ws) (take 512 (drop 128 ws)) 0 0 farthest) (c7 .bare-key .ensures) (c8 .keys-of .ensures)) (c .before .before .if1 .left) .2,
+    )
 
 sub-t13 : tie.Need-sub-t13
 sub-t13 c =
-    let ws = c .before .before .before .before .before .before .before .before .before .before .args .table .now in
-    up-range ws (c .before .before .before .before .before .before .before .before .before .before .pre .0) (c .before .before .before .before .before .before .before .before .before .before .args .scope) (c .before .before .before .before .before .before .before .before .before .before .pre .2) (firstOf (pathOf (c .before .before .before .before .before .before .before .before .before .before .args .path))) (c .before .before .before .nearest-value .result) (c .before .before .before .nearest-value .ensures ∙ ap₂ (λ (k : ℕ) (p : List ℕ). nearIn k p (take 128 ws) (take 512 (drop 128 ws)) 0 0 farthest) (c .before .before .before .before .before .before .before .bare-key .ensures) (c .before .before .before .before .before .before .before .before .keys-of .ensures)) (c .before .before .if1 .left) .0
+    let c3 = c .before .before .before in
+    let c7 = c3 .before .before .before .before in
+    let c8 = c7 .before in
+    let c10 = c8 .before .before in
+    let ws = c10 .args .table .now in
+    up-range ws (c10 .pre .0) (c10 .args .scope) (c10 .pre .2) (firstOf (pathOf (c10 .args .path))) (c3 .nearest-value .result)
+    (c3 .nearest-value .ensures ∙ ap₂ (λ (k : ℕ) (p : List ℕ). nearIn k p (take 128 ws) (take 512 (drop 128 ws)) 0 0 farthest) (c7 .bare-key .ensures) (c8 .keys-of .ensures)) (c .before .before .if1 .left) .0
 
 add-t23 : tie.Need-add-t23
 add-t23 c =
@@ -88,8 +114,14 @@ add-t23 c =
 
 returns-2 : tie.Need-returns-2
 returns-2 c =
-    let ws = c .before .before .before .before .before .before .before .before .before .before .args .table .now in
-    up-found ws (c .before .before .before .before .before .before .before .before .before .before .pre .0) (c .before .before .before .before .before .before .before .before .before .before .args .scope) (c .before .before .before .before .before .before .before .before .before .before .pre .2) (firstOf (pathOf (c .before .before .before .before .before .before .before .before .before .before .args .path))) (c .before .before .before .nearest-value .result) (c .before .before .before .nearest-value .ensures ∙ ap₂ (λ (k : ℕ) (p : List ℕ). nearIn k p (take 128 ws) (take 512 (drop 128 ws)) 0 0 farthest) (c .before .before .before .before .before .before .before .bare-key .ensures) (c .before .before .before .before .before .before .before .before .keys-of .ensures)) (c .before .before .if1 .left) (c .before .full-name .result) (c .before .full-name .ensures)
+    let c3 = c .before .before .before in
+    let c7 = c3 .before .before .before .before in
+    let c8 = c7 .before in
+    let c10 = c8 .before .before in
+    let ws = c10 .args .table .now in
+    up-found ws (c10 .pre .0) (c10 .args .scope) (c10 .pre .2) (firstOf (pathOf (c10 .args .path))) (c3 .nearest-value .result)
+    (c3 .nearest-value .ensures ∙ ap₂ (λ (k : ℕ) (p : List ℕ). nearIn k p (take 128 ws) (take 512 (drop 128 ws)) 0 0 farthest) (c7 .bare-key .ensures) (c8 .keys-of .ensures)) (c .before .before .if1 .left)
+    (c .before .full-name .result) (c .before .full-name .ensures)
 
 pub search-up-spec : {M : Type 1} → statement M
 search-up-spec =

@@ -37,13 +37,21 @@ empty-requires-2 c κs = search needs
 
 returns : tie.Need-returns
 returns c =
+    let c3 = c .before .before .before in
+    let c4 = c3 .before in
+    let c5 = c4 .before in
     c .normal .ensures
-    ∙ ap (λ (x : Answer (List Component)). told componentLimit (alone x)) (yes (pathOf (c .before .before .before .before .before .args .path)) (sym (c .before .before .starts-at-root .ensures) ∙ c .before .if2 .taken) ∙ path-good componentLimit (c .before .before .before .before .before .args .path) (settled componentLimit) (sym (c .before .before .before .before .is-path .ensures) ∙ c .before .before .before .if1 .taken))
+    ∙ ap (λ (x : Answer (List Component)). told componentLimit (alone x))
+    (yes (pathOf (c5 .args .path)) (sym (c .before .before .starts-at-root .ensures) ∙ c .before .if2 .taken) ∙ path-good componentLimit (c5 .args .path) (settled componentLimit) (sym (c4 .is-path .ensures) ∙ c3 .if1 .taken))
 
 returns-2 : tie.Need-returns-2
 returns-2 c =
+    let c3 = c .before .before .before in
+    let c4 = c3 .before in
+    let c5 = c4 .before in
     same-told (c .empty .ensures) refl
-    ∙ ap (λ (x : Answer (List Component)). told componentLimit (alone x)) (not (pathOf (c .before .before .before .before .before .args .path)) (sym (c .before .before .starts-at-root .ensures) ∙ c .before .if2 .left) ∙ path-good componentLimit (c .before .before .before .before .before .args .path) (settled componentLimit) (sym (c .before .before .before .before .is-path .ensures) ∙ c .before .before .before .if1 .taken))
+    ∙ ap (λ (x : Answer (List Component)). told componentLimit (alone x))
+    (not (pathOf (c5 .args .path)) (sym (c .before .before .starts-at-root .ensures) ∙ c .before .if2 .left) ∙ path-good componentLimit (c5 .args .path) (settled componentLimit) (sym (c4 .is-path .ensures) ∙ c3 .if1 .taken))
 
 returns-3 : tie.Need-returns-3
 returns-3 c =

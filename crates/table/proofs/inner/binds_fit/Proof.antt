@@ -56,9 +56,14 @@ shared-slice-read-if4 c = search needs
 
 returns-3 : tie.Need-returns-3 Inv-loop μ-loop
 returns-3 c =
-    let l = c .before .before .before .before .before .before .before .loop in
-    let a = c .before .before .before .before .before .before .before .before .before .before .args in
-    sym (binds-held (a .made) (a .n) (a .from) (a .bindings .now) (omega arith) (omega arith) ∙ sym (l .inv .3) ∙ rising-loose (a .made) (l .lo) (l .i) (a .from + a .n) (a .bindings .now) (omega arith) (omega arith) (c .before .before .before .before .if2 .left) (sym (c .before .before .before .seg-ok .ensures) ∙ c .before .before .if3 .taken) (c .if4 .taken))
+    let c3 = c .before .before .before in
+    let c4 = c3 .before in
+    let c7 = c4 .before .before .before in
+    let c10 = c7 .before .before .before in
+    let l = c7 .loop in
+    let a = c10 .args in
+    sym (binds-held (a .made) (a .n) (a .from) (a .bindings .now) (omega arith) (omega arith) ∙ sym (l .inv .3)
+    ∙ rising-loose (a .made) (l .lo) (l .i) (a .from + a .n) (a .bindings .now) (omega arith) (omega arith) (c4 .if2 .left) (sym (c3 .seg-ok .ensures) ∙ c .before .before .if3 .taken) (c .if4 .taken))
 
 add-lo : tie.Need-add-lo Inv-loop μ-loop
 add-lo c =

@@ -25,11 +25,15 @@ enum-known-found c = search needs
 
 mul-count : tie.Need-mul-count
 mul-count c =
-    omega (arith, spot-inside (c .before .before .before .before .before .before .before .before .args .levels .now) (c .before .before .before .before .before .before .before .before .args .bindings .now) (c .before .before .before .before .before .before .before .before .args .path .now) (c .before .before .before .before .before .before .before .before .pre .1) (c .before .before .before .seek .result) (c .before .before .before .seek .ensures) (c .before .found .given .0 .0) (c .before .found .given .0 .1 .0) (c .before .found .given .1))
+    let c3 = c .before .before .before in
+    let c8 = c3 .before .before .before .before .before in
+    omega (arith, spot-inside (c8 .args .levels .now) (c8 .args .bindings .now) (c8 .args .path .now) (c8 .pre .1) (c3 .seek .result) (c3 .seek .ensures) (c .before .found .given .0 .0) (c .before .found .given .0 .1 .0) (c .before .found .given .1))
 
 shared-slice-read-count : tie.Need-shared-slice-read-count
 shared-slice-read-count c =
-    spot-inside (c .before .before .before .before .before .before .before .before .before .args .levels .now) (c .before .before .before .before .before .before .before .before .before .args .bindings .now) (c .before .before .before .before .before .before .before .before .before .args .path .now) (c .before .before .before .before .before .before .before .before .before .pre .1) (c .before .before .before .before .seek .result) (c .before .before .before .before .seek .ensures) (c .before .before .found .given .0 .0) (c .before .before .found .given .0 .1 .0) (c .before .before .found .given .1)
+    let c4 = c .before .before .before .before in
+    let c9 = c4 .before .before .before .before .before in
+    spot-inside (c9 .args .levels .now) (c9 .args .bindings .now) (c9 .args .path .now) (c9 .pre .1) (c4 .seek .result) (c4 .seek .ensures) (c .before .before .found .given .0 .0) (c .before .before .found .given .0 .1 .0) (c .before .before .found .given .1)
 
 mul-find-slot : tie.Need-mul-find-slot
 mul-find-slot c = search needs
@@ -39,7 +43,10 @@ shared-slice-read-find-slot c = search needs
 
 find-slot-requires : tie.Need-find-slot-requires
 find-slot-requires c κs =
-    rw (spot-from (c .before .before .before .before .before .before .before .before .before .before .args .levels .now) (c .before .before .before .before .before .before .before .before .before .before .args .bindings .now) (c .before .before .before .before .before .before .before .before .before .before .args .path .now) (c .before .before .before .before .before .before .before .before .before .before .pre .1) (c .before .before .before .before .before .seek .result) (c .before .before .before .before .before .seek .ensures) (c .before .before .before .found .given .0 .0) (c .before .before .before .found .given .0 .1 .0) (c .before .before .before .found .given .1)) (c .before .before .before .before .before .before .before .before .before .before .pre .2 (c .before .before .before .found .given .0 .0))
+    let c3 = c .before .before .before in
+    let c5 = c3 .before .before in
+    let c10 = c5 .before .before .before .before .before in
+    rw (spot-from (c10 .args .levels .now) (c10 .args .bindings .now) (c10 .args .path .now) (c10 .pre .1) (c5 .seek .result) (c5 .seek .ensures) (c3 .found .given .0 .0) (c3 .found .given .0 .1 .0) (c3 .found .given .1)) (c10 .pre .2 (c3 .found .given .0 .0))
 
 enum-known-seen : tie.Need-enum-known-seen
 enum-known-seen c = search needs
@@ -58,19 +65,34 @@ enum-known-found-2 c = search needs
 
 returns : tie.Need-returns
 returns c =
-    ap (slotSpot (c .before .before .before .before .before .before .before .found .given .0 .0)) (sym (c .before .seen .given .1)) ∙ spot-slot (c .before .before .before .before .before .before .before .before .before .before .before .before .before .before .args .levels .now) (c .before .before .before .before .before .before .before .before .before .before .before .before .before .before .args .bindings .now) (c .before .before .before .before .before .before .before .before .before .before .before .before .before .before .args .path .now) (c .before .before .before .before .before .before .before .before .before .before .before .before .before .before .pre .1) (c .before .before .before .before .before .before .before .before .before .seek .result) (c .before .before .before .before .before .before .before .before .before .seek .ensures) (c .before .before .before .before .before .before .before .found .given .0 .0) (c .before .before .before .before .before .before .before .found .given .0 .1 .0) (c .before .before .before .before .before .before .before .found .given .1) (c .before .before .before .find-slot .result) (c .before .before .before .find-slot .ensures)
+    let c3 = c .before .before .before in
+    let c7 = c3 .before .before .before .before in
+    let c9 = c7 .before .before in
+    let c14 = c9 .before .before .before .before .before in
+    ap (slotSpot (c7 .found .given .0 .0)) (sym (c .before .seen .given .1))
+    ∙ spot-slot (c14 .args .levels .now) (c14 .args .bindings .now) (c14 .args .path .now) (c14 .pre .1) (c9 .seek .result) (c9 .seek .ensures) (c7 .found .given .0 .0) (c7 .found .given .0 .1 .0) (c7 .found .given .1)
+    (c3 .find-slot .result) (c3 .find-slot .ensures)
 
 returns-2 : tie.Need-returns-2
 returns-2 c =
-    ap (slotSpot (c .before .before .before .before .before .before .before .found .given .0 .0)) (sym (c .before .seen2 .given .1)) ∙ spot-slot (c .before .before .before .before .before .before .before .before .before .before .before .before .before .before .args .levels .now) (c .before .before .before .before .before .before .before .before .before .before .before .before .before .before .args .bindings .now) (c .before .before .before .before .before .before .before .before .before .before .before .before .before .before .args .path .now) (c .before .before .before .before .before .before .before .before .before .before .before .before .before .before .pre .1) (c .before .before .before .before .before .before .before .before .before .seek .result) (c .before .before .before .before .before .before .before .before .before .seek .ensures) (c .before .before .before .before .before .before .before .found .given .0 .0) (c .before .before .before .before .before .before .before .found .given .0 .1 .0) (c .before .before .before .before .before .before .before .found .given .1) (c .before .before .before .find-slot .result) (c .before .before .before .find-slot .ensures)
+    let c3 = c .before .before .before in
+    let c7 = c3 .before .before .before .before in
+    let c9 = c7 .before .before in
+    let c14 = c9 .before .before .before .before .before in
+    ap (slotSpot (c7 .found .given .0 .0)) (sym (c .before .seen2 .given .1))
+    ∙ spot-slot (c14 .args .levels .now) (c14 .args .bindings .now) (c14 .args .path .now) (c14 .pre .1) (c9 .seek .result) (c9 .seek .ensures) (c7 .found .given .0 .0) (c7 .found .given .0 .1 .0) (c7 .found .given .1)
+    (c3 .find-slot .result) (c3 .find-slot .ensures)
 
 returns-3 : tie.Need-returns-3
 returns-3 c =
-    spot-before (c .before .before .before .before .before .before .before .args .levels .now) (c .before .before .before .before .before .before .before .args .bindings .now) (c .before .before .before .before .before .before .before .args .path .now) (c .before .before .before .before .before .before .before .pre .1) (c .before .before .seek .result) (c .before .before .seek .ensures) _ (c .enum-told .given .1)
+    let c7 = c .before .before .before .before .before .before .before in
+    spot-before (c7 .args .levels .now) (c7 .args .bindings .now) (c7 .args .path .now) (c7 .pre .1) (c .before .before .seek .result) (c .before .before .seek .ensures) _ (c .enum-told .given .1)
 
 returns-4 : tie.Need-returns-4
 returns-4 c =
-    spot-missing (c .before .before .before .before .before .before .before .before .args .levels .now) (c .before .before .before .before .before .before .before .before .args .bindings .now) (c .before .before .before .before .before .before .before .before .args .path .now) (c .before .before .before .before .before .before .before .before .pre .1) (c .before .before .before .seek .result) (c .before .before .before .seek .ensures) (c .before .found2 .given .0 .0) (c .before .found2 .given .1)
+    let c3 = c .before .before .before in
+    let c8 = c3 .before .before .before .before .before in
+    spot-missing (c8 .args .levels .now) (c8 .args .bindings .now) (c8 .args .path .now) (c8 .pre .1) (c3 .seek .result) (c3 .seek .ensures) (c .before .found2 .given .0 .0) (c .before .found2 .given .1)
 
 pub find-spot-in-spec : {M : Type 1} → statement M
 find-spot-in-spec =

@@ -34,7 +34,11 @@ name-fits-requires c κs = search needs
 returns-4 : tie.Need-returns-4
 unfolding levelOk
 returns-4 c =
-    simp (lt-ltb _ _ (pos (c .before .before .before .before .before .if1 .left)), le-leb _ _ (c .before .before .before .before .if2 .left), le-leb _ _ (c .before .before .before .if3 .left), sym (c .before .before .name-fits .ensures) ∙ c .before .if4 .taken, lt-ltb _ _ (c .if5 .taken), lt-ltb (countOf (c .before .before .before .before .before .before .args .w)) 1024 (omega arith))
+    let c3 = c .before .before .before in
+    let c4 = c3 .before in
+    let c5 = c4 .before in
+    let c6 = c5 .before in
+    simp (lt-ltb _ _ (pos (c5 .if1 .left)), le-leb _ _ (c4 .if2 .left), le-leb _ _ (c3 .if3 .left), sym (c .before .before .name-fits .ensures) ∙ c .before .if4 .taken, lt-ltb _ _ (c .if5 .taken), lt-ltb (countOf (c6 .args .w)) 1024 (omega arith))
 
 returns-5 : tie.Need-returns-5
 unfolding levelOk

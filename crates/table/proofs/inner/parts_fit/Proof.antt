@@ -34,8 +34,12 @@ returns-2 c =
 
 returns-3 : tie.Need-returns-3
 returns-3 c =
-    let a = c .before .before .before .before .before .before .before .before .before .before .args in
-    c .scan-levels .ensures ∙ sym (parts-scan limits (a .levels .now) (a .bindings .now) (a .objects .now) (omega arith) (c .before .before .before .before .before .if1 .left) (sym (c .before .before .before .before .rest-zero .ensures) ∙ c .before .before .before .if2 .taken) (c .before .if3 .left))
+    let c3 = c .before .before .before in
+    let c4 = c3 .before in
+    let c5 = c4 .before in
+    let c10 = c5 .before .before .before .before .before in
+    let a = c10 .args in
+    c .scan-levels .ensures ∙ sym (parts-scan limits (a .levels .now) (a .bindings .now) (a .objects .now) (omega arith) (c5 .if1 .left) (sym (c4 .rest-zero .ensures) ∙ c3 .if2 .taken) (c .before .if3 .left))
 
 returns-4 : tie.Need-returns-4
 returns-4 c =

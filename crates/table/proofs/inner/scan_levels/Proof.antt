@@ -56,39 +56,57 @@ add-low c = search needs
 
 mul-low : tie.Need-mul-low Inv-loop μ-loop
 mul-low c =
-    let l = c .before .before .before .before .before .before .loop in
-    let a = c .before .before .before .before .before .before .before .before .before .args in
-    omega (arith, passed-rank componentLimit (a .made) (l .p) (l .low) (getD (a .levels .now) (l .k) 0) (l .m) (a .bindings .now) (sym (c .before .record-fits .ensures) ∙ c .if3 .taken), passed-room componentLimit (a .made) (l .p) (l .low) (getD (a .levels .now) (l .k) 0) (l .m) (a .bindings .now) (sym (c .before .record-fits .ensures) ∙ c .if3 .taken))
+    let c6 = c .before .before .before .before .before .before in
+    let c9 = c6 .before .before .before in
+    let l = c6 .loop in
+    let a = c9 .args in
+    let h1 = sym (c .before .record-fits .ensures) ∙ c .if3 .taken in
+    omega (arith, passed-rank componentLimit (a .made) (l .p) (l .low) (getD (a .levels .now) (l .k) 0) (l .m) (a .bindings .now) h1, passed-room componentLimit (a .made) (l .p) (l .low) (getD (a .levels .now) (l .k) 0) (l .m) (a .bindings .now) h1)
 
 array-write-low : tie.Need-array-write-low Inv-loop μ-loop
 array-write-low c =
-    let l = c .before .before .before .before .before .before .loop in
-    let a = c .before .before .before .before .before .before .before .before .before .args in
-    omega (arith, passed-rank componentLimit (a .made) (l .p) (l .low) (getD (a .levels .now) (l .k) 0) (l .m) (a .bindings .now) (sym (c .before .record-fits .ensures) ∙ c .if3 .taken), passed-room componentLimit (a .made) (l .p) (l .low) (getD (a .levels .now) (l .k) 0) (l .m) (a .bindings .now) (sym (c .before .record-fits .ensures) ∙ c .if3 .taken))
+    let c6 = c .before .before .before .before .before .before in
+    let c9 = c6 .before .before .before in
+    let l = c6 .loop in
+    let a = c9 .args in
+    let h1 = sym (c .before .record-fits .ensures) ∙ c .if3 .taken in
+    omega (arith, passed-rank componentLimit (a .made) (l .p) (l .low) (getD (a .levels .now) (l .k) 0) (l .m) (a .bindings .now) h1, passed-room componentLimit (a .made) (l .p) (l .low) (getD (a .levels .now) (l .k) 0) (l .m) (a .bindings .now) h1)
 
 add-low-2 : tie.Need-add-low-2 Inv-loop μ-loop
 add-low-2 c =
-    let l = c .before .before .before .before .before .before .loop in
-    let a = c .before .before .before .before .before .before .before .before .before .args in
-    omega (arith, passed-rank componentLimit (a .made) (l .p) (l .low) (getD (a .levels .now) (l .k) 0) (l .m) (a .bindings .now) (sym (c .before .record-fits .ensures) ∙ c .if3 .taken), passed-room componentLimit (a .made) (l .p) (l .low) (getD (a .levels .now) (l .k) 0) (l .m) (a .bindings .now) (sym (c .before .record-fits .ensures) ∙ c .if3 .taken))
+    let c6 = c .before .before .before .before .before .before in
+    let c9 = c6 .before .before .before in
+    let l = c6 .loop in
+    let a = c9 .args in
+    let h1 = sym (c .before .record-fits .ensures) ∙ c .if3 .taken in
+    omega (arith, passed-rank componentLimit (a .made) (l .p) (l .low) (getD (a .levels .now) (l .k) 0) (l .m) (a .bindings .now) h1, passed-room componentLimit (a .made) (l .p) (l .low) (getD (a .levels .now) (l .k) 0) (l .m) (a .bindings .now) h1)
 
 mul-low-2 : tie.Need-mul-low-2 Inv-loop μ-loop
 mul-low-2 c =
-    let l = c .before .before .before .before .before .before .loop in
-    let a = c .before .before .before .before .before .before .before .before .before .args in
-    omega (arith, passed-rank componentLimit (a .made) (l .p) (l .low) (getD (a .levels .now) (l .k) 0) (l .m) (a .bindings .now) (sym (c .before .record-fits .ensures) ∙ c .if3 .taken), passed-room componentLimit (a .made) (l .p) (l .low) (getD (a .levels .now) (l .k) 0) (l .m) (a .bindings .now) (sym (c .before .record-fits .ensures) ∙ c .if3 .taken))
+    let c6 = c .before .before .before .before .before .before in
+    let c9 = c6 .before .before .before in
+    let l = c6 .loop in
+    let a = c9 .args in
+    let h1 = sym (c .before .record-fits .ensures) ∙ c .if3 .taken in
+    omega (arith, passed-rank componentLimit (a .made) (l .p) (l .low) (getD (a .levels .now) (l .k) 0) (l .m) (a .bindings .now) h1, passed-room componentLimit (a .made) (l .p) (l .low) (getD (a .levels .now) (l .k) 0) (l .m) (a .bindings .now) h1)
 
 array-write-low-2 : tie.Need-array-write-low-2 Inv-loop μ-loop
 array-write-low-2 c =
-    let l = c .before .before .before .before .before .before .loop in
-    let a = c .before .before .before .before .before .before .before .before .before .args in
-    omega (arith, passed-rank componentLimit (a .made) (l .p) (l .low) (getD (a .levels .now) (l .k) 0) (l .m) (a .bindings .now) (sym (c .before .record-fits .ensures) ∙ c .if3 .taken), passed-room componentLimit (a .made) (l .p) (l .low) (getD (a .levels .now) (l .k) 0) (l .m) (a .bindings .now) (sym (c .before .record-fits .ensures) ∙ c .if3 .taken))
+    let c6 = c .before .before .before .before .before .before in
+    let c9 = c6 .before .before .before in
+    let l = c6 .loop in
+    let a = c9 .args in
+    let h1 = sym (c .before .record-fits .ensures) ∙ c .if3 .taken in
+    omega (arith, passed-rank componentLimit (a .made) (l .p) (l .low) (getD (a .levels .now) (l .k) 0) (l .m) (a .bindings .now) h1, passed-room componentLimit (a .made) (l .p) (l .low) (getD (a .levels .now) (l .k) 0) (l .m) (a .bindings .now) h1)
 
 add-m : tie.Need-add-m Inv-loop μ-loop
 add-m c =
-    let l = c .before .before .before .before .before .before .loop in
-    let a = c .before .before .before .before .before .before .before .before .before .args in
-    omega (arith, passed-rank componentLimit (a .made) (l .p) (l .low) (getD (a .levels .now) (l .k) 0) (l .m) (a .bindings .now) (sym (c .before .record-fits .ensures) ∙ c .if3 .taken), passed-room componentLimit (a .made) (l .p) (l .low) (getD (a .levels .now) (l .k) 0) (l .m) (a .bindings .now) (sym (c .before .record-fits .ensures) ∙ c .if3 .taken))
+    let c6 = c .before .before .before .before .before .before in
+    let c9 = c6 .before .before .before in
+    let l = c6 .loop in
+    let a = c9 .args in
+    let h1 = sym (c .before .record-fits .ensures) ∙ c .if3 .taken in
+    omega (arith, passed-rank componentLimit (a .made) (l .p) (l .low) (getD (a .levels .now) (l .k) 0) (l .m) (a .bindings .now) h1, passed-room componentLimit (a .made) (l .p) (l .low) (getD (a .levels .now) (l .k) 0) (l .m) (a .bindings .now) h1)
 
 returns-3 : tie.Need-returns-3 Inv-loop μ-loop
 returns-3 c =

@@ -33,7 +33,11 @@ is-name-char-requires-3 c κs = search needs
 returns : tie.Need-returns
 unfolding segmentOk segOk
 returns c =
-    simp (sym (c .before .before .before .before .before .before .is-lead-name-char .ensures) ∙ c .before .before .before .before .before .if1 .taken, sym (c .before .before .before .before .is-name-char .ensures) ∙ c .before .before .before .if2 .taken, sym (c .before .before .is-name-char2 .ensures) ∙ c .before .if3 .taken)
+    let c3 = c .before .before .before in
+    let c4 = c3 .before in
+    let c5 = c4 .before in
+    let c6 = c5 .before in
+    simp (sym (c6 .is-lead-name-char .ensures) ∙ c5 .if1 .taken, sym (c4 .is-name-char .ensures) ∙ c3 .if2 .taken, sym (c .before .before .is-name-char2 .ensures) ∙ c .before .if3 .taken)
     (c .is-name-char3 .ensures)
 
 returns-2 : tie.Need-returns-2
