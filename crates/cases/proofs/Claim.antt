@@ -17,5 +17,8 @@ use Rattle.statement.specs.Meaning.{eval, turns, doStmt, doStmts}
 use Rattle.cases.specs.Cases.{paperTable, cases, allSaid, allExpected}
 
 pub cases-hold : allSaid cases ≡ allExpected cases
-unfolding paperTable cases allSaid allExpected keys bound levelCount levelAt alter hasLevel insertLevel insertBinding withChild withBinding addLevel isBound handleIn lookUp bind addValue outward valueIn searchUp little spelt rawLength fromRaw pkgLength leadOk digitOk charOk spell byteAt char segment segments runAt namePath carets prefixOf spelled judged nameString step walk upright limited normal padded reading afterRoot textPath fromText look termOp stmtOp readOne readTwo readTerm readPackage readHead readElse readIf listBy readStmt readBlock fresh eval turns doStmt doStmts
+unfolding paperTable cases allSaid allExpected keys bound levelCount levelAt alter hasLevel insertLevel insertBinding withChild withBinding addLevel
+    isBound handleIn lookUp bind addValue outward valueIn searchUp little spelt rawLength fromRaw pkgLength leadOk digitOk charOk spell byteAt char
+    segment segments runAt namePath carets prefixOf spelled judged nameString step walk upright limited normal padded reading afterRoot textPath
+    fromText look termOp stmtOp readOne readTwo readTerm readPackage readHead readElse readIf listBy readStmt readBlock fresh eval turns doStmt doStmts
 cases-hold = refl
