@@ -17,20 +17,21 @@ use Rattle.name_object.proofs.Memory.{push-one}
 use Rattle.path.proofs.Walks.{length-path, path-byte}
 use Rattle.name_object.proofs.Memory.{pop-last}
 use Rattle.table.specs.Tree.{number, key}
-use Rattle.namespace.specs.Search.{bare, firstOf}
+use Rattle.path.specs.Normal.{oneSegment}
+use Rattle.namespace.specs.Search.{firstOf}
 use Rattle.namespace.specs.Inside.{Settled, Bare}
 use Rattle.table.proofs.Shape.{clash}
 use Rattle.namespace.proofs.Keys.{SegAt, seg-number, settled-kept}
 
 -- the test of one bare segment
-not-one : (cs : List Component) → (length cs ≡ 1 → ⊥) → bare cs ≡ false
+not-one : (cs : List Component) → (length cs ≡ 1 → ⊥) → oneSegment cs ≡ false
 not-one [] h = refl
 not-one (root ∷ cs) h = refl
 not-one (up ∷ cs) h = refl
 not-one (seg a b c d ∷ []) h = absurd (h refl)
 not-one (seg a b c d ∷ x ∷ cs) h = refl
 
-pub bare-many : (name : AmlName) → (name .count ≡ 1 → ⊥) → bare (pathOf name) ≡ false
+pub bare-many : (name : AmlName) → (name .count ≡ 1 → ⊥) → oneSegment (pathOf name) ≡ false
 bare-many name h = not-one (pathOf name) (λ e. h (sym (length-path name) ∙ e))
 
 lead-root : leadOk 0x5C ≡ false
@@ -41,18 +42,18 @@ lead-up : leadOk 0x5E ≡ false
 unfolding leadOk
 lead-up = refl
 
-one-kind : (a b c d : ℕ) → kindOk true a b c d ≡ true → leadOk a ≡ bare (componentOf a b c d ∷ [])
+one-kind : (a b c d : ℕ) → kindOk true a b c d ≡ true → leadOk a ≡ oneSegment (componentOf a b c d ∷ [])
 unfolding kindOk componentOf
 one-kind a b c d h = go (eqb a 0x5C) (eqb a 0x5E) refl refl h
   where
     go : (s t : Bool) → eqb a 0x5C ≡ s → eqb a 0x5E ≡ t → pick s (pick true (Rattle.name_object.specs.Memory.bare b c d) false) (pick t (Rattle.name_object.specs.Memory.bare b c d) (segOk a b c d)) ≡ true
-        → leadOk a ≡ bare (pick s root (pick t up (seg a b c d)) ∷ [])
+        → leadOk a ≡ oneSegment (pick s root (pick t up (seg a b c d)) ∷ [])
     go true t p q h = ap leadOk (eqb-true a 0x5C p) ∙ lead-root
     go false true p q h = ap leadOk (eqb-true a 0x5E q) ∙ lead-up
     go false false p q h = unfold segOk in both (leadOk a) _ h .0
 
-pub bare-one : (name : AmlName) → pathOk componentLimit name ≡ true → name .count ≡ 1 → leadOk (getD (name .bytes) 0 0) ≡ bare (pathOf name)
-bare-one name h e = one-kind _ _ _ _ first ∙ ap bare (sym alone)
+pub bare-one : (name : AmlName) → pathOk componentLimit name ≡ true → name .count ≡ 1 → leadOk (getD (name .bytes) 0 0) ≡ oneSegment (pathOf name)
+bare-one name h e = one-kind _ _ _ _ first ∙ ap oneSegment (sym alone)
   where
     alone : pathOf name ≡ componentOf (getD (name .bytes) 0 0) (getD (name .bytes) 1 0) (getD (name .bytes) 2 0) (getD (name .bytes) 3 0) ∷ []
     alone = unfold pathOf components in rw e
@@ -62,7 +63,7 @@ bare-one name h e = one-kind _ _ _ _ first ∙ ap bare (sym alone)
 
 -- the segment itself
 module _ (name : AmlName) (hb : length (name .bytes) ≡ 128) (h : Bare name) where
-  view : (cs : List Component) → bare cs ≡ true → fine true cs ≡ true → (length cs ≡ 1) × SegAt (firstOf cs) × (firstOf cs ≡ getD cs 0 up)
+  view : (cs : List Component) → oneSegment cs ≡ true → fine true cs ≡ true → (length cs ≡ 1) × SegAt (firstOf cs) × (firstOf cs ≡ getD cs 0 up)
   unfolding fine
   view [] b f = clash (sym b)
   view (root ∷ cs) b f = clash (sym b)

@@ -11,7 +11,7 @@ use Rattle.name_object.specs.Component.{Component, componentLimit}
 use Rattle.name_object.specs.Memory.{Named, Told, told, nameOf, pathOk, pathOf, pathIn}
 use Rattle.name_object.specs.declared.AmlName.{AmlName}
 use Rattle.name_object.proofs.Paths.{name-whole}
-use Rattle.path.specs.Normal.{resolved}
+use Rattle.path.specs.Normal.{resolved, oneSegment}
 use Rattle.path.proofs.Walks.{length-path}
 use Rattle.path.proofs.Laws.{Kept}
 use Rattle.table.specs.Limits.{Limits, limits}
@@ -20,7 +20,7 @@ use Rattle.table.specs.Memory.{wellFormed, decode, means}
 use Rattle.table.specs.Edits.{lookUp}
 use Rattle.namespace.specs.Calls.{settled, settledKeys}
 use Rattle.table.specs.Search.{Found, Hit, named, searchUp, levelUp}
-use Rattle.namespace.specs.Search.{bare, firstOf, searchOnce, searchCall, levelCall}
+use Rattle.namespace.specs.Search.{firstOf, searchOnce, searchCall, levelCall}
 use Rattle.table.specs.Inside.{nearIn, farthest, nearLevelIn}
 use Rattle.namespace.specs.Inside.{Settled, Bare}
 use Rattle.table.specs.declared.inner.Nearest.{Nearest}
@@ -169,7 +169,7 @@ module _ (m : Limits) (ws : List ℕ) (path scope : AmlName) where
       inner : Answer (Named Hit)
       inner =
           andThen (pathIn (m .components) scope) (λ ss. andThen (settled (m .components) ss) (λ ns.
-          pick (bare (pathOf path)) (searchUp m (decode m ws) (firstOf (pathOf path)) ns) (searchOnce m (decode m ws) (pathOf path) ns)))
+          pick (oneSegment (pathOf path)) (searchUp m (decode m ws) (firstOf (pathOf path)) ns) (searchOnce m (decode m ws) (pathOf path) ns)))
 
       whole-call : searchCall m ws path scope ≡ inner
       unfolding searchCall inner
@@ -180,24 +180,24 @@ module _ (m : Limits) (ws : List ℕ) (path scope : AmlName) where
       swap (refuses n p) f g = refl
 
       scoped : (a : Answer (List Component)) → andThen (pathIn (m .components) scope) (settled (m .components)) ≡ a
-          → searchCall m ws path scope ≡ andThen a (λ ns. pick (bare (pathOf path)) (searchUp m (decode m ws) (firstOf (pathOf path)) ns) (searchOnce m (decode m ws) (pathOf path) ns))
+          → searchCall m ws path scope ≡ andThen a (λ ns. pick (oneSegment (pathOf path)) (searchUp m (decode m ws) (firstOf (pathOf path)) ns) (searchOnce m (decode m ws) (pathOf path) ns))
       unfolding inner
       scoped a e =
-          whole-call ∙ swap (pathIn (m .components) scope) (settled (m .components)) (λ ns. pick (bare (pathOf path)) (searchUp m (decode m ws) (firstOf (pathOf path)) ns) (searchOnce m (decode m ws) (pathOf path) ns))
-          ∙ ap (λ (x : Answer (List Component)). andThen x (λ ns. pick (bare (pathOf path)) (searchUp m (decode m ws) (firstOf (pathOf path)) ns) (searchOnce m (decode m ws) (pathOf path) ns))) e
+          whole-call ∙ swap (pathIn (m .components) scope) (settled (m .components)) (λ ns. pick (oneSegment (pathOf path)) (searchUp m (decode m ws) (firstOf (pathOf path)) ns) (searchOnce m (decode m ws) (pathOf path) ns))
+          ∙ ap (λ (x : Answer (List Component)). andThen x (λ ns. pick (oneSegment (pathOf path)) (searchUp m (decode m ws) (firstOf (pathOf path)) ns) (searchOnce m (decode m ws) (pathOf path) ns))) e
 
       pub search-scope : (e : AmlError) → andThen (pathIn (m .components) scope) (settled (m .components)) ≡ refused e → refused e ≡ searchCall m ws path scope
       search-scope e h = sym (scoped (refused e) h)
 
       module _ (ns : List Component) (h : andThen (pathIn (m .components) scope) (settled (m .components)) ≡ gives ns) where
-        pub search-bare : bare (pathOf path) ≡ true → searchUp m (decode m ws) (firstOf (pathOf path)) ns ≡ searchCall m ws path scope
+        pub search-bare : oneSegment (pathOf path) ≡ true → searchUp m (decode m ws) (firstOf (pathOf path)) ns ≡ searchCall m ws path scope
         search-bare b = sym (scoped (gives ns) h ∙ rw b)
 
-        pub search-other : bare (pathOf path) ≡ false → searchOnce m (decode m ws) (pathOf path) ns ≡ searchCall m ws path scope
+        pub search-other : oneSegment (pathOf path) ≡ false → searchOnce m (decode m ws) (pathOf path) ns ≡ searchCall m ws path scope
         search-other b = sym (scoped (gives ns) h ∙ rw b)
 
       -- levels
-      level-call : bare (pathOf path) ≡ true → levelCall m ws path scope ≡ andThen (andThen (pathIn (m .components) scope) (settled (m .components))) (λ ns. levelUp m (decode m ws) (firstOf (pathOf path)) ns)
+      level-call : oneSegment (pathOf path) ≡ true → levelCall m ws path scope ≡ andThen (andThen (pathIn (m .components) scope) (settled (m .components))) (λ ns. levelUp m (decode m ws) (firstOf (pathOf path)) ns)
       level-call b = called ∙ swap (pathIn (m .components) scope) (settled (m .components)) (λ ns. levelUp m (decode m ws) (firstOf (pathOf path)) ns)
         where
           called : levelCall m ws path scope ≡ andThen (pathIn (m .components) scope) (λ ss. andThen (settled (m .components) ss) (λ ns. levelUp m (decode m ws) (firstOf (pathOf path)) ns))
@@ -207,22 +207,22 @@ module _ (m : Limits) (ws : List ℕ) (path scope : AmlName) where
               given = unfold pathIn in rw hp
 
               held : (x : Answer (List Component)) → x ≡ gives (pathOf path) → (y : Answer (List Component))
-                  → andThen x (λ cs. andThen y (λ ss. pick (bare cs) (andThen (settled (m .components) ss) (λ ns. levelUp m (decode m ws) (firstOf cs) ns)) (gives (record { path = cs; value = 0 }))))
+                  → andThen x (λ cs. andThen y (λ ss. pick (oneSegment cs) (andThen (settled (m .components) ss) (λ ns. levelUp m (decode m ws) (firstOf cs) ns)) (gives (record { path = cs; value = 0 }))))
                   ≡ andThen y (λ ss. andThen (settled (m .components) ss) (λ ns. levelUp m (decode m ws) (firstOf (pathOf path)) ns))
               held x e (gives ss) = rw (e, b)
               held x e (refuses n p) = rw e
 
-      pub level-scope : bare (pathOf path) ≡ true → (e : AmlError) → andThen (pathIn (m .components) scope) (settled (m .components)) ≡ refused e → refused e ≡ levelCall m ws path scope
+      pub level-scope : oneSegment (pathOf path) ≡ true → (e : AmlError) → andThen (pathIn (m .components) scope) (settled (m .components)) ≡ refused e → refused e ≡ levelCall m ws path scope
       level-scope b e h = sym (level-call b ∙ rw h)
 
-      pub level-bare : bare (pathOf path) ≡ true → (ns : List Component) → andThen (pathIn (m .components) scope) (settled (m .components)) ≡ gives ns
+      pub level-bare : oneSegment (pathOf path) ≡ true → (ns : List Component) → andThen (pathIn (m .components) scope) (settled (m .components)) ≡ gives ns
           → levelUp m (decode m ws) (firstOf (pathOf path)) ns ≡ levelCall m ws path scope
       level-bare b ns h = sym (level-call b ∙ rw h)
 
-      pub level-same : bare (pathOf path) ≡ false → pathOk (m .components) scope ≡ true → gives (record { path = pathOf path; value = 0 }) ≡ levelCall m ws path scope
+      pub level-same : oneSegment (pathOf path) ≡ false → pathOk (m .components) scope ≡ true → gives (record { path = pathOf path; value = 0 }) ≡ levelCall m ws path scope
       unfolding levelCall pathIn
       level-same b h = rw (means-formed m ws ok, hp, h, b)
 
-      pub level-other : bare (pathOf path) ≡ false → pathOk (m .components) scope ≡ false → refuses 26 0 ≡ levelCall m ws path scope
+      pub level-other : oneSegment (pathOf path) ≡ false → pathOk (m .components) scope ≡ false → refuses 26 0 ≡ levelCall m ws path scope
       unfolding levelCall pathIn
       level-other b h = rw (means-formed m ws ok, hp, h)

@@ -4,8 +4,7 @@ use mathlib.Core.Bool.{true}
 use Rattle.name_object.specs.Component.{componentLimit}
 use Rattle.name_object.specs.Memory.{pathOk, pathOf}
 use Rattle.name_object.specs.declared.AmlName.{AmlName}
-use Rattle.path.specs.Normal.{absolute, isNormal}
-use Rattle.namespace.specs.Search.{bare}
+use Rattle.path.specs.Normal.{absolute, isNormal, oneSegment}
 
 -- memory that holds a normal absolute path
 pub record Settled (name : AmlName) : Type 0 where
@@ -16,4 +15,4 @@ pub record Settled (name : AmlName) : Type 0 where
 -- memory that holds one bare segment
 pub record Bare (name : AmlName) : Type 0 where
   pub path : pathOk componentLimit name ≡ true
-  pub alone : bare (pathOf name) ≡ true
+  pub alone : oneSegment (pathOf name) ≡ true

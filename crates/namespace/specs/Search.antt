@@ -1,12 +1,11 @@
 -- The calls that search, whole.
 use Prim.Native.Nat.{ℕ}
-use mathlib.Core.Bool.{Bool, true, false}
 use mathlib.Core.List.{List, [], _∷_}
 use Rattle.pkg_length.specs.Refusal.{Answer, gives, refused, andThen, pick}
-use Rattle.name_object.specs.Component.{Component, root, up, seg}
+use Rattle.name_object.specs.Component.{Component, up}
 use Rattle.name_object.specs.Memory.{Named, Told, pathIn}
 use Rattle.name_object.specs.declared.AmlName.{AmlName}
-use Rattle.path.specs.Normal.{resolved}
+use Rattle.path.specs.Normal.{resolved, oneSegment}
 use Rattle.table.specs.Limits.{Limits}
 use Rattle.table.specs.Tree.{Tree, keys}
 use Rattle.table.specs.Memory.{means}
@@ -17,14 +16,6 @@ use Rattle.namespace.specs.declared.SearchSaid.{SearchSaid}
 use Rattle.namespace.specs.declared.SearchAnswer.{SearchAnswer}
 use Rattle.namespace.specs.declared.LevelSaid.{LevelSaid}
 use Rattle.namespace.specs.declared.LevelAnswer.{LevelAnswer}
-
--- one bare segment
-abbrev pub bare : List Component → Bool
-bare [] = false
-bare (root ∷ cs) = false
-bare (up ∷ cs) = false
-bare (seg a b c d ∷ []) = true
-bare (seg a b c d ∷ x ∷ cs) = false
 
 abbrev pub firstOf : List Component → Component
 firstOf [] = up
@@ -43,7 +34,7 @@ searchCall m ws path scope =
     andThen (pathIn (m .components) path) (λ cs.
     andThen (pathIn (m .components) scope) (λ ss.
     andThen (settled (m .components) ss) (λ ns.
-    pick (bare cs) (searchUp m t (firstOf cs) ns) (searchOnce m t cs ns)))))
+    pick (oneSegment cs) (searchUp m t (firstOf cs) ns) (searchOnce m t cs ns)))))
 
 -- any other path is returned unchanged, none asked
 unfoldable pub levelCall : Limits → List ℕ → AmlName → AmlName → Answer (Named ℕ)
@@ -51,7 +42,7 @@ levelCall m ws path scope =
     andThen (means m ws) (λ t.
     andThen (pathIn (m .components) path) (λ cs.
     andThen (pathIn (m .components) scope) (λ ss.
-    pick (bare cs)
+    pick (oneSegment cs)
     (andThen (settled (m .components) ss) (λ ns. levelUp m t (firstOf cs) ns))
     (gives (record { path = cs; value = 0 })))))
 

@@ -7,7 +7,7 @@ ghost use lib.ListN.{take};
 ghost use Rattle.pkg_length.specs.Refusal.{andThen, pick, refused};
 ghost use Rattle.name_object.specs.Component.{componentLimit};
 ghost use Rattle.name_object.specs.Memory.{told, nameOf, pathOk, pathIn, pathOf};
-ghost use Rattle.path.specs.Normal.{alone, pathTold};
+ghost use Rattle.path.specs.Normal.{alone, pathTold, oneSegment};
 ghost use Rattle.table.specs.Limits.{limits};
 ghost use Rattle.table.specs.Tree.{key, keys};
 ghost use Rattle.table.specs.Memory.{wellFormed, decode, left, done};
@@ -15,7 +15,7 @@ ghost use Rattle.table.specs.Edits.{addLevel, removeLevel, lookUp, addValue, ad
 ghost use Rattle.table.specs.Search.{searchUp, levelUp};
 ghost use Rattle.table.specs.Inside.{Keyed};
 ghost use Rattle.namespace.specs.Calls.{settled, editLeft, valueSaid, handleSaid, handleLeft, typeNumber, aliasAt};
-ghost use Rattle.namespace.specs.Search.{searchTold, searchOnce, searchCall, levelTold, levelCall, bare, firstOf};
+ghost use Rattle.namespace.specs.Search.{searchTold, searchOnce, searchCall, levelTold, levelCall, firstOf};
 ghost use Rattle.namespace.specs.Inside.{Settled, Bare};
 use crate::AmlHandle;
 use crate::EditAnswer;
@@ -319,7 +319,7 @@ fn within(name: AmlName, n: usize) -> AmlName
 // The search rules apply: one bare segment.
 fn is_bare(path: AmlName) -> bool
     requires { ⌜ pathOk componentLimit path ≡ true ⌝ }
-    ensures { λ r. ⌜ r ≡ bare (pathOf path) ⌝ }
+    ensures { λ r. ⌜ r ≡ oneSegment (pathOf path) ⌝ }
 {
     if path.count == 1 {
         name_object::is_lead_name_char(path.bytes[0])
