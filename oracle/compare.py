@@ -24,6 +24,8 @@ STRIP = re.compile(r" (?:units|asked) \d+")
 
 
 def run(program, lines):
+    if not lines:
+        return []
     out = subprocess.run([program], input="\n".join(lines) + "\n", capture_output=True, text=True, errors="surrogateescape").stdout.split("\n")[:-1]
     if len(out) != len(lines):
         sys.exit("compare: %s answered %d of %d lines" % (program, len(out), len(lines)))
