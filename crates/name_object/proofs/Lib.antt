@@ -5,3 +5,4 @@ pub mod Prefix
 pub mod Building
 pub mod Answers
 pub mod Spelling
+pub mod Zeros

@@ -49,21 +49,6 @@ module _ (bs : List ℕ) (n i : ℕ) where
       let f : 4 * i ≡ 4 * n = omega arith in
       rw (e, f) (bytes-none (eqb i 0) (drop (4 * n) bs))
 
--- the spare bytes: whether all so far were zero, and those to come
-pub clean-start : (bs : List ℕ) (from : ℕ) → pick true (allZero (drop from bs)) false ≡ allZero (drop from bs)
-clean-start bs from = refl
-
-pub clean-turn : (bs : List ℕ) (j : ℕ) (clean next : Bool) → j < length bs → next ≡ pick clean (eqb (getD bs j 0) 0) false →
-    pick next (allZero (drop (j + 1) bs)) false ≡ pick clean (allZero (drop j bs)) false
-unfolding allZero
-clean-turn bs j true next h e = let s : j + 1 ≡ suc j = omega arith in rw (e, drop-cons bs j 0 h, s)
-clean-turn bs j false next h e = rw e
-
-pub clean-end : (bs : List ℕ) (j : ℕ) (clean : Bool) → length bs ≤ j → clean ≡ pick clean (allZero (drop j bs)) false
-unfolding allZero
-clean-end bs j true h = rw (drop-of-length-le bs h)
-clean-end bs j false h = refl
-
 pub path-over : (limit : ℕ) (name : AmlName) → limit < name .count → false ≡ pathOk limit name
 unfolding pathOk
 path-over limit name h = rw (lt-leb _ _ h)

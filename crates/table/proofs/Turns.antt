@@ -33,20 +33,6 @@ clear-done i n xs l h k e = sym (take-all i xs h) ∙ e ∙ ap (λ (m : ℕ). re
     same : (i m n : ℕ) → m ≡ n → m ≤ i → i ≤ m → i ≡ n
     same i m n a b c = omega arith
 
--- zeros looked for
-module _ (l : List ℕ) (i : ℕ) (h : i < length l) where
-  pub zeros-stop : (getD l i 0 ≡ 0 → ⊥) → allZero (drop i l) ≡ false
-  unfolding allZero
-  zeros-stop x = rw (drop-cons l i 0 h, ne-eqb (getD l i 0) 0 x)
-
-  pub zeros-on : getD l i 0 ≡ 0 → allZero (drop i l) ≡ allZero (drop (i + 1) l)
-  unfolding allZero
-  zeros-on x = rw (add-one i, drop-cons l i 0 h, eq-eqb (getD l i 0) 0 x)
-
-pub zeros-end : (l : List ℕ) (i : ℕ) → length l ≤ i → allZero (drop i l) ≡ true
-unfolding allZero
-zeros-end l i h = rw (drop-of-length-le l h)
-
 -- bindings
 bindSeg : ℕ → ℕ
 bindSeg w = w / 4294967296

@@ -3,6 +3,7 @@ ghost use mathlib.Core.Path.{_≡_};
 ghost use mathlib.Core.Bool.{true, false};
 ghost use mathlib.Core.List.{_++_, map};
 ghost use Prim.Native.Nat.{ℕ, _+_, _-_, _<_, _≤_};
+ghost use lib.Dec.{eqb};
 ghost use lib.ListN.{length, take, drop, getD, replicate};
 ghost use Rattle.pkg_length.specs.Refusal.{pick};
 ghost use Rattle.name_object.specs.Component.{componentLimit};
@@ -112,18 +113,28 @@ fn binds_fit(bindings: &[u64], from: usize, n: usize, made: u64) -> bool
     true
 }
 
+// A spare word more.
+fn is_clean(clean: bool, w: u64) -> bool
+    ensures { λ r. ⌜ r ≡ pick clean (eqb w 0) false ⌝ }
+{
+    if clean {
+        return w == 0;
+    }
+    false
+}
+
+// Every word from an index on is zero. All are looked at, so that many are taken at a time.
 fn rest_zero(xs: &[u64], from: usize) -> bool
     requires { ⌜ from ≤ length (now xs) ⌝ }
     ensures { λ r. ⌜ r ≡ allZero (drop from (now (xs .entry))) ⌝ }
 {
+    let mut clean = true;
     let mut i = from;
     while i < xs.len() {
-        if xs[i] != 0 {
-            return false;
-        }
+        clean = is_clean(clean, xs[i]);
         i += 1;
     }
-    true
+    clean
 }
 
 // A record after one of rank p, with its bindings from index from on; low has the least segment that may come at each rank.

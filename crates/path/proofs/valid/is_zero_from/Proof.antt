@@ -5,7 +5,7 @@ use Prim.Native.Nat.{_-_, _≤_}
 use lib.ListN.{drop}
 use Rattle.pkg_length.specs.Refusal.{pick}
 use Rattle.name_object.specs.Memory.{allZero}
-use Rattle.path.proofs.Tests.{clean-turn, clean-end}
+use Rattle.name_object.proofs.Zeros.{clean-turn, clean-end}
 use borrow.Author.Needs.{needs}
 use native.Mathlib.Omega.{arith}
 use Rattle.path.proofs.valid.is_zero_from.Statement.{statement}

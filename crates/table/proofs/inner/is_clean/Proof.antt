@@ -1,0 +1,15 @@
+-- The tests in the definition's order.
+use mathlib.Core.Path.{_≡_, refl, sym, _∙_, ap}
+use borrow.Author.Needs.{needs}
+use native.Mathlib.Omega.{arith}
+use Rattle.table.proofs.inner.is_clean.Statement.{statement}
+use Rattle.table.proofs.inner.is_clean.Tie as tie
+
+returns : tie.Need-returns
+returns c = rw (c .if1 .taken)
+
+returns-2 : tie.Need-returns-2
+returns-2 c = rw (c .if1 .left)
+
+pub is-clean-spec : {M : Type 1} → statement M
+is-clean-spec = tie.close (tie.spec returns returns-2)
