@@ -53,8 +53,14 @@ pub const TEXTS: [&str; 12] = [
 ];
 
 /// Paths with a `^` that takes a segment away.
-pub const BENT: [&str; 6] =
-    ["\\_SB_.PCI0.^ISA_", "\\_SB_.PCI0.LPCB.^^_STA", "A.^B", "\\A.B.C.^^^D", "\\_SB_.PCI0.RP01.^RP02.PXSX.^PXSY", "\\_SB_.PCI0.LPCB.EC0_.BAT0.^BAT1.CELL"];
+pub const BENT: [&str; 6] = [
+    "\\_SB_.PCI0.^ISA_",
+    "\\_SB_.PCI0.LPCB.^^_STA",
+    "A.^B",
+    "\\A.B.C.^^^D",
+    "\\_SB_.PCI0.RP01.^RP02.PXSX.^PXSY",
+    "\\_SB_.PCI0.LPCB.EC0_.BAT0.^BAT1.CELL",
+];
 
 /// Paths relative to a scope.
 pub const SEEN: [(&str, &str); 6] = [
@@ -72,7 +78,9 @@ pub fn board_levels() -> Vec<String> {
     levels.extend((0..16).map(|i| format!("\\_PR_.CP{i:02}")));
     levels.push("\\_SB_.PCI0".into());
     levels.extend((0..24).flat_map(|i| [format!("\\_SB_.PCI0.RP{i:02}"), format!("\\_SB_.PCI0.RP{i:02}.PXSX")]));
-    levels.extend(["LPCB", "LPCB.EC0_", "LPCB.EC0_.BAT0", "LPCB.EC0_.BAT1", "LPCB.EC0_.BAT0.CELL", "XHC_", "XHC_.RHUB"].map(|l| format!("\\_SB_.PCI0.{l}")));
+    levels.extend(
+        ["LPCB", "LPCB.EC0_", "LPCB.EC0_.BAT0", "LPCB.EC0_.BAT1", "LPCB.EC0_.BAT0.CELL", "XHC_", "XHC_.RHUB"].map(|l| format!("\\_SB_.PCI0.{l}")),
+    );
     levels.extend((1..15).map(|i| format!("\\_SB_.PCI0.XHC_.RHUB.HS{i:02}")));
     levels.extend((1..11).map(|i| format!("\\_SB_.PCI0.XHC_.RHUB.SS{i:02}")));
     assert_eq!(levels.len(), 100);
@@ -84,7 +92,9 @@ pub fn board_values(levels: &[String]) -> Vec<(String, u64)> {
     levels
         .iter()
         .enumerate()
-        .flat_map(|(i, l)| [("_ADR".to_string(), 1), ("_STA".to_string(), 15), ("_UID".to_string(), i as u64), (own(i), 7)].map(|(s, v)| (format!("{l}.{s}"), v)))
+        .flat_map(|(i, l)| {
+            [("_ADR".to_string(), 1), ("_STA".to_string(), 15), ("_UID".to_string(), i as u64), (own(i), 7)].map(|(s, v)| (format!("{l}.{s}"), v))
+        })
         .collect()
 }
 

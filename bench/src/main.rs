@@ -88,7 +88,15 @@ fn every_row(rounds: usize) -> i32 {
         if ratio < 1.0 {
             behind += 1;
         }
-        println!("| {} | {} | {} | {} | {}{} |", row.name, row.calls, figure(each(port)), figure(each(rust)), figure(ratio), if ratio < 1.0 { " (behind)" } else { "" });
+        println!(
+            "| {} | {} | {} | {} | {}{} |",
+            row.name,
+            row.calls,
+            figure(each(port)),
+            figure(each(rust)),
+            figure(ratio),
+            if ratio < 1.0 { " (behind)" } else { "" }
+        );
     }
     eprintln!("{} rows, the port ahead on {}, behind on {behind}", rows.len(), rows.len() - behind);
     0

@@ -194,7 +194,11 @@ fn normalised() -> Row {
         calls: 100_000,
         same: Box::new(|| {
             for t in inputs::BENT {
-                equal(&t, path(t).normalize().map_err(|e| e.to_string())?.to_string(), name(t).normalize().map_err(|e| format!("{e:?}"))?.as_string())?;
+                equal(
+                    &t,
+                    path(t).normalize().map_err(|e| e.to_string())?.to_string(),
+                    name(t).normalize().map_err(|e| format!("{e:?}"))?.as_string(),
+                )?;
             }
             Ok(inputs::BENT.len())
         }),
@@ -216,7 +220,11 @@ fn resolved() -> Row {
         |(p, s)| done(black_box(p).resolve(black_box(s))),
         || {
             for (p, s) in inputs::SEEN {
-                equal(&(p, s), path(p).resolve(&path(s)).map_err(|e| e.to_string())?.to_string(), name(p).resolve(&name(s)).map_err(|e| format!("{e:?}"))?.as_string())?;
+                equal(
+                    &(p, s),
+                    path(p).resolve(&path(s)).map_err(|e| e.to_string())?.to_string(),
+                    name(p).resolve(&name(s)).map_err(|e| format!("{e:?}"))?.as_string(),
+                )?;
             }
             Ok(inputs::SEEN.len())
         },

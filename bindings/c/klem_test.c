@@ -26,6 +26,21 @@ static bool answered(uint64_t number, uint64_t place, uint64_t a, uint64_t b, ui
 }
 #define GIVES(a, b, c, call) MUST(answered(0, 0, a, b, c, call))
 #define REFUSES(number, place, call) MUST(answered(number, place, 0, 0, 0, call))
+/* a call that refuses leaves the path that it would have written as it was */
+#define REFUSES_OUT(number, place, call)           \
+    do {                                           \
+        uint8_t as_it_was[KLEM_PATH];              \
+        memcpy(as_it_was, out, KLEM_PATH);         \
+        REFUSES(number, place, call);              \
+        MUST(memcmp(as_it_was, out, KLEM_PATH) == 0); \
+    } while (0)
+/* and a table that it would have edited */
+#define REFUSES_EDIT(number, place, call)          \
+    do {                                           \
+        memcpy(before, table, sizeof table);       \
+        REFUSES(number, place, call);              \
+        MUST(memcmp(before, table, sizeof table) == 0); \
+    } while (0)
 
 /* a path of text that is known to be one */
 struct path {
@@ -72,13 +87,11 @@ static void names(void) {
     MUST(is(out, "\\"));
     GIVES(10, 0, 0, klem_name_string((const uint8_t *)"\\.AB12_X__", 10, out, KLEM_PATH, r, KLEM_RESULT));
     MUST(is(out, "\\AB12._X"));
-    /* a call that refuses leaves out as it was */
-    memcpy(before, out, KLEM_PATH);
-    REFUSES(7, 0, klem_name_string((const uint8_t *)"\x2F\x00", 2, out, KLEM_PATH, r, KLEM_RESULT));
-    REFUSES(6, 3, klem_name_string((const uint8_t *)"AB1-", 4, out, KLEM_PATH, r, KLEM_RESULT));
-    MUST(memcmp(before, out, KLEM_PATH) == 0);
+    REFUSES_OUT(7, 0, klem_name_string((const uint8_t *)"\x2F\x00", 2, out, KLEM_PATH, r, KLEM_RESULT));
+    REFUSES_OUT(6, 3, klem_name_string((const uint8_t *)"AB1-", 4, out, KLEM_PATH, r, KLEM_RESULT));
     /* a slice whose length is fixed has another: nothing is written, to the result neither */
     memset(r, 0xA5, sizeof r);
+    memcpy(before, out, KLEM_PATH);
     MUST(klem_name_string((const uint8_t *)"ABCD", 4, out, KLEM_PATH - 1, r, KLEM_RESULT) == KLEM_BAD_SLICE);
     MUST(r[0] == 0xA5A5A5A5A5A5A5A5u && memcmp(before, out, KLEM_PATH) == 0);
     MUST(klem_root(out, KLEM_PATH, r, KLEM_RESULT - 1) == KLEM_BAD_SLICE);
@@ -96,12 +109,12 @@ static void paths(void) {
     MUST(is(out, "\\"));
     GIVES(0, 0, 0, klem_from_name_seg((const uint8_t *)"A___", 4, out, KLEM_PATH, r, KLEM_RESULT));
     MUST(is(out, "A"));
-    REFUSES(26, 0, klem_from_name_seg((const uint8_t *)"1___", 4, out, KLEM_PATH, r, KLEM_RESULT));
+    REFUSES_OUT(26, 0, klem_from_name_seg((const uint8_t *)"1___", 4, out, KLEM_PATH, r, KLEM_RESULT));
     GIVES(0, 0, 0, klem_from_components(2, bytes, 128, out, KLEM_PATH, r, KLEM_RESULT));
     MUST(is(out, "\\A"));
-    REFUSES(26, 0, klem_from_components(1, bytes, 128, out, KLEM_PATH, r, KLEM_RESULT));
-    REFUSES(8, 1, klem_from_str((const uint8_t *)"^", 1, out, KLEM_PATH, r, KLEM_RESULT));
-    REFUSES(7, 0, klem_from_str((const uint8_t *)"", 0, out, KLEM_PATH, r, KLEM_RESULT));
+    REFUSES_OUT(26, 0, klem_from_components(1, bytes, 128, out, KLEM_PATH, r, KLEM_RESULT));
+    REFUSES_OUT(8, 1, klem_from_str((const uint8_t *)"^", 1, out, KLEM_PATH, r, KLEM_RESULT));
+    REFUSES_OUT(7, 0, klem_from_str((const uint8_t *)"", 0, out, KLEM_PATH, r, KLEM_RESULT));
 
     GIVES(0, 0, 0, klem_normalize(p.bytes, KLEM_PATH, out, KLEM_PATH, r, KLEM_RESULT));
     MUST(is(out, "\\_SB_.ISA_"));
@@ -113,16 +126,17 @@ static void paths(void) {
     GIVES(1, 0, 0, klem_is_absolute(p.bytes, KLEM_PATH, r, KLEM_RESULT));
     GIVES(0, 0, 0, klem_search_rules_apply(p.bytes, KLEM_PATH, r, KLEM_RESULT));
     p = path("\\^ISA_");
-    REFUSES(10, 0, klem_normalize(p.bytes, KLEM_PATH, out, KLEM_PATH, r, KLEM_RESULT));
+    REFUSES_OUT(10, 0, klem_normalize(p.bytes, KLEM_PATH, out, KLEM_PATH, r, KLEM_RESULT));
+    REFUSES_OUT(10, 0, klem_parent(p.bytes, KLEM_PATH, out, KLEM_PATH, r, KLEM_RESULT));
     p = path("\\A.B");
     GIVES(0, 0, 0, klem_parent(p.bytes, KLEM_PATH, out, KLEM_PATH, r, KLEM_RESULT));
     MUST(is(out, "\\A"));
     GIVES(0, 0, 0, klem_resolve(path("^X").bytes, KLEM_PATH, p.bytes, KLEM_PATH, out, KLEM_PATH, r, KLEM_RESULT));
     MUST(is(out, "\\A.X"));
-    REFUSES(11, 0, klem_resolve(p.bytes, KLEM_PATH, path("Y").bytes, KLEM_PATH, out, KLEM_PATH, r, KLEM_RESULT));
+    REFUSES_OUT(11, 0, klem_resolve(p.bytes, KLEM_PATH, path("Y").bytes, KLEM_PATH, out, KLEM_PATH, r, KLEM_RESULT));
     /* a spare byte that is not zero: no path */
     bad.bytes[128] = 1;
-    REFUSES(26, 0, klem_normalize(bad.bytes, KLEM_PATH, out, KLEM_PATH, r, KLEM_RESULT));
+    REFUSES_OUT(26, 0, klem_normalize(bad.bytes, KLEM_PATH, out, KLEM_PATH, r, KLEM_RESULT));
 }
 
 static uint64_t add_level(const char *at, uint64_t typ) {
@@ -142,8 +156,8 @@ static void tables(void) {
     static uint64_t before[KLEM_TABLE];
 
     MUST(!klem_well_formed(table, KLEM_TABLE));
-    REFUSES(24, 0, klem_new(table, KLEM_TABLE - 1, r, KLEM_RESULT));
-    REFUSES(24, 0, add_level("\\A", 0));
+    REFUSES_EDIT(24, 0, klem_new(table, KLEM_TABLE - 1, r, KLEM_RESULT));
+    REFUSES_EDIT(24, 0, add_level("\\A", 0));
     GIVES(0, 0, 0, klem_new(table, KLEM_TABLE, r, KLEM_RESULT));
     MUST(klem_well_formed(table, KLEM_TABLE));
 
@@ -154,19 +168,19 @@ static void tables(void) {
     GIVES(1, 3, 0, search("X", "\\A.B.C", out));
     MUST(is(out, "\\A.X"));
     GIVES(0, 1, 0, search("X", "\\", out));
-    REFUSES(16, 0, search("Y", "\\A.B", out));
-    MUST(is(out, "\\X"));
+    REFUSES_OUT(16, 0, search("Y", "\\A.B", out));
+    REFUSES_OUT(15, 1, klem_search_for_level(table, KLEM_TABLE, path("Z").bytes, KLEM_PATH, path("\\A").bytes, KLEM_PATH, out, KLEM_PATH, r, KLEM_RESULT));
     GIVES(3, 0, 0, klem_search_for_level(table, KLEM_TABLE, path("B").bytes, KLEM_PATH, path("\\A.B.C").bytes, KLEM_PATH, out, KLEM_PATH, r, KLEM_RESULT));
     MUST(is(out, "\\A.B"));
 
-    /* a refused edit leaves the table as it was */
-    memcpy(before, table, sizeof table);
-    REFUSES(15, 2, add_level("\\A.Q.R", 0));
-    REFUSES(17, 0, add_value("\\A.X", 9));
-    REFUSES(KLEM_BAD_TYPE, 0, add_level("\\C", 6));
-    REFUSES(14, 0, klem_remove_level(table, KLEM_TABLE, path("\\").bytes, KLEM_PATH, r, KLEM_RESULT));
-    REFUSES(21, 0, klem_set(table, KLEM_TABLE, 2, 9, r, KLEM_RESULT));
-    MUST(memcmp(before, table, sizeof table) == 0);
+    REFUSES_EDIT(15, 2, add_level("\\A.Q.R", 0));
+    REFUSES_EDIT(17, 0, add_value("\\A.X", 9));
+    REFUSES_EDIT(KLEM_BAD_TYPE, 0, add_level("\\C", 6));
+    REFUSES_EDIT(14, 0, klem_remove_level(table, KLEM_TABLE, path("\\").bytes, KLEM_PATH, r, KLEM_RESULT));
+    REFUSES_EDIT(21, 0, klem_set(table, KLEM_TABLE, 2, 9, r, KLEM_RESULT));
+    REFUSES_EDIT(16, 0, klem_set_by_path(table, KLEM_TABLE, path("\\A.Q").bytes, KLEM_PATH, 9, r, KLEM_RESULT));
+    REFUSES_EDIT(10, 0, klem_add_value_at_resolved_path(table, KLEM_TABLE, path("^^Z").bytes, KLEM_PATH, path("\\A").bytes, KLEM_PATH, 7, r, KLEM_RESULT));
+    REFUSES_EDIT(13, 0, klem_add_alias_at_resolved_path(table, KLEM_TABLE, path("Y").bytes, KLEM_PATH, path("\\A").bytes, KLEM_PATH, path("\\").bytes, KLEM_PATH, r, KLEM_RESULT));
 
     GIVES(0, 0, 0, klem_add_alias_at_resolved_path(table, KLEM_TABLE, path("Y").bytes, KLEM_PATH, path("\\A").bytes, KLEM_PATH, path("^X").bytes, KLEM_PATH, r, KLEM_RESULT));
     GIVES(0, 0, 0, klem_get_handle(table, KLEM_TABLE, path("\\A.Y").bytes, KLEM_PATH, r, KLEM_RESULT));

@@ -30,6 +30,7 @@ pub struct Run {
 }
 
 /// Whether a block is well-formed: accepted, or refused with 1 to 5.
+#[inline]
 pub fn check(block: &[u8]) -> Result<(), Error> {
     let mut a = Answer::new();
     // SAFETY: both pointers come with the lengths of what they point to, and the result is this call's own.
@@ -47,6 +48,7 @@ pub fn check(block: &[u8]) -> Result<(), Error> {
 /// let ran = run(&[0x70, 0x0A, 0x03, 0x60, 0xA2, 0x04, 0x60, 0x76, 0x60, 0xA4, 0x60], &mut frame, 100);
 /// assert_eq!((ran.end, ran.units), (Ok(Ended::Returned(0)), 10));
 /// ```
+#[inline]
 pub fn run(block: &[u8], frame: &mut Frame, budget: u64) -> Run {
     let mut a = Answer::new();
     // SAFETY: every pointer comes with the length of what it points to. The frame and the result may be written: one is lent as
@@ -71,6 +73,7 @@ impl Frame {
     pub const ARG0: usize = 8;
 
     /// A frame whose cells are all unset.
+    #[inline]
     pub fn new() -> Frame {
         // What the call writes anyway stands here before, so that there is nothing to say where it refused.
         let mut words = [0; FRAME];
@@ -81,6 +84,7 @@ impl Frame {
     }
 
     /// What a cell holds; 23 where it is unset, or is not there.
+    #[inline]
     pub fn get(&self, cell: usize) -> Result<u64, Error> {
         let mut a = Answer::new();
         // SAFETY: both pointers come with the lengths of what they point to, and the result is this call's own.
@@ -90,6 +94,7 @@ impl Frame {
     }
 
     /// Sets a cell. Where it is not there (15 and more), no cell is set.
+    #[inline]
     pub fn set(&mut self, cell: usize, number: u64) {
         let mut a = Answer::new();
         // SAFETY: both pointers come with the lengths of what they point to, and both may be written: one is lent as `&mut`, the
@@ -98,6 +103,7 @@ impl Frame {
     }
 
     /// The frame with a cell set, as [`set`](Frame::set) sets it.
+    #[inline]
     #[must_use]
     pub fn with(mut self, cell: usize, number: u64) -> Frame {
         self.set(cell, number);
@@ -107,6 +113,7 @@ impl Frame {
 
 impl Default for Frame {
     /// A frame whose cells are all unset.
+    #[inline]
     fn default() -> Frame {
         Frame::new()
     }

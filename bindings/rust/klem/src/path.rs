@@ -3,24 +3,28 @@ use crate::Error;
 use core::{convert::TryFrom, fmt, str};
 
 /// Whether a byte may start a segment: A to Z, or `_`.
+#[inline]
 pub fn is_lead_name_char(byte: u8) -> bool {
     // SAFETY: numbers alone.
     unsafe { raw::klem_is_lead_name_char(byte) }
 }
 
 /// Whether a byte is a digit.
+#[inline]
 pub fn is_digit_char(byte: u8) -> bool {
     // SAFETY: numbers alone.
     unsafe { raw::klem_is_digit_char(byte) }
 }
 
 /// Whether a byte may stand in a segment: A to Z, `_` or a digit.
+#[inline]
 pub fn is_name_char(byte: u8) -> bool {
     // SAFETY: numbers alone.
     unsafe { raw::klem_is_name_char(byte) }
 }
 
 /// Reads a NameString at the front of AML bytes. Gives the path and how many bytes it used.
+#[inline]
 pub fn name_string(input: &[u8]) -> Result<(Path, usize), Error> {
     let (path, [used, _, _]) = given(|out, a| {
         // SAFETY: every pointer comes with the length of what it points to; `out` and the result are this call's own.
@@ -48,6 +52,7 @@ pub enum Component {
 }
 
 // A call that writes a path. The path is zeros until the call gives one, and is dropped where it refuses.
+#[inline]
 pub(crate) fn given(call: impl FnOnce(*mut u8, *mut u64) -> u64) -> Result<(Path, [u64; 3]), Error> {
     let mut out = [0u8; PATH];
     let mut a = Answer::new();
@@ -67,6 +72,7 @@ impl Path {
     pub const EMPTY: Path = Path([0; PATH]);
 
     /// The path `\`.
+    #[inline]
     pub fn root() -> Path {
         // The call refuses nothing but slices of a wrong length, and these are right.
         match given(|out, a| {
@@ -79,6 +85,7 @@ impl Path {
     }
 
     /// The path of one segment alone; 26 where the four bytes are no segment.
+    #[inline]
     pub fn from_name_seg(seg: [u8; 4]) -> Result<Path, Error> {
         let (path, _) = given(|out, a| {
             // SAFETY: every pointer comes with the length of what it points to; `out` and the result are this call's own.
@@ -88,6 +95,7 @@ impl Path {
     }
 
     /// The path that a count and 32 components of four bytes hold; 26 where they hold none.
+    #[inline]
     pub fn from_components(count: usize, bytes: &[u8; 128]) -> Result<Path, Error> {
         let (path, _) = given(|out, a| {
             // SAFETY: as above.
@@ -97,12 +105,14 @@ impl Path {
     }
 
     /// The path that memory holds, as [`as_memory`](Path::as_memory) shows it; 26 where it holds none.
+    #[inline]
     pub fn from_memory(memory: &[u8; PATH]) -> Result<Path, Error> {
         let [count, rest @ ..] = memory;
         Path::from_components(*count as usize, rest)
     }
 
     /// The path of a text, as `\_SB_.PCI0` or `^FOO`.
+    #[inline]
     pub fn from_text(text: &[u8]) -> Result<Path, Error> {
         let (path, _) = given(|out, a| {
             // SAFETY: as above.
@@ -112,12 +122,14 @@ impl Path {
     }
 
     /// The path that a NameString spells, and how many of the bytes it used: [`name_string`].
+    #[inline]
     pub fn from_bytes(input: &[u8]) -> Result<(Path, usize), Error> {
         name_string(input)
     }
 
     /// Writes the path's text to the start of `out`, and gives its length; what stands behind it stays. 25 where it does not fit,
     /// and then nothing is written. 159 bytes always suffice.
+    #[inline]
     pub fn write_text(&self, out: &mut [u8]) -> Result<usize, Error> {
         let mut a = Answer::new();
         // SAFETY: every pointer comes with the length of what it points to. The text and the result may be written: one is lent as
@@ -128,6 +140,7 @@ impl Path {
     }
 
     /// The path's text, held by value; nothing is allocated.
+    #[inline]
     pub fn text(&self) -> Text {
         let mut bytes = [0u8; Path::MOST_TEXT];
         // 159 bytes are enough for every path, so that nothing is refused here.
@@ -151,6 +164,7 @@ impl Path {
     }
 
     /// The components, from the first to the last.
+    #[inline]
     pub fn components(&self) -> impl DoubleEndedIterator<Item = Component> + '_ {
         let [count, rest @ ..] = &self.0;
         rest.chunks_exact(4).take(*count as usize).map(|c| match c {
@@ -163,6 +177,7 @@ impl Path {
     }
 
     // A test that only 26 could refuse, and this is a path.
+    #[inline]
     fn flag(&self, call: unsafe extern "C" fn(*const u8, usize, *mut u64, usize) -> u64) -> bool {
         let mut a = Answer::new();
         // SAFETY: both pointers come with the lengths of what they point to, and the result is this call's own.
@@ -171,21 +186,25 @@ impl Path {
     }
 
     /// Whether the path has no `^`.
+    #[inline]
     pub fn is_normal(&self) -> bool {
         self.flag(raw::klem_is_normal)
     }
 
     /// Whether the path starts with `\`.
+    #[inline]
     pub fn is_absolute(&self) -> bool {
         self.flag(raw::klem_is_absolute)
     }
 
     /// Whether the search rules apply to the path: it is one bare segment.
+    #[inline]
     pub fn search_rules_apply(&self) -> bool {
         self.flag(raw::klem_search_rules_apply)
     }
 
     /// The normal form: each `^` takes away the segment before it, 10 where there is none.
+    #[inline]
     pub fn normalize(&self) -> Result<Path, Error> {
         let (path, _) = given(|out, a| {
             // SAFETY: every pointer comes with the length of what it points to; `out` and the result are this call's own.
@@ -195,6 +214,7 @@ impl Path {
     }
 
     /// The normal form without its last segment; 12 where it has none.
+    #[inline]
     pub fn parent(&self) -> Result<Path, Error> {
         let (path, _) = given(|out, a| {
             // SAFETY: as above.
@@ -204,6 +224,7 @@ impl Path {
     }
 
     /// The path as seen from a scope, which must be absolute (11): a normal absolute path.
+    #[inline]
     pub fn resolve(&self, scope: &Path) -> Result<Path, Error> {
         let (path, _) = given(|out, a| {
             // SAFETY: as above.
@@ -212,6 +233,7 @@ impl Path {
         Ok(path)
     }
 
+    #[inline]
     pub(crate) fn ptr(&self) -> *const u8 {
         self.0.as_ptr()
     }
@@ -219,6 +241,7 @@ impl Path {
 
 impl Default for Path {
     /// The empty path.
+    #[inline]
     fn default() -> Path {
         Path::EMPTY
     }
@@ -227,6 +250,7 @@ impl Default for Path {
 impl str::FromStr for Path {
     type Err = Error;
 
+    #[inline]
     fn from_str(text: &str) -> Result<Path, Error> {
         Path::from_text(text.as_bytes())
     }
@@ -235,6 +259,7 @@ impl str::FromStr for Path {
 impl TryFrom<&str> for Path {
     type Error = Error;
 
+    #[inline]
     fn try_from(text: &str) -> Result<Path, Error> {
         Path::from_text(text.as_bytes())
     }
@@ -261,6 +286,7 @@ pub struct Text {
 
 impl Text {
     /// The text.
+    #[inline]
     pub fn as_str(&self) -> &str {
         // A path's text is ASCII, and within its bytes.
         self.bytes.get(..self.length).and_then(|b| str::from_utf8(b).ok()).unwrap_or("")
@@ -268,6 +294,7 @@ impl Text {
 }
 
 impl AsRef<str> for Text {
+    #[inline]
     fn as_ref(&self) -> &str {
         self.as_str()
     }
@@ -276,6 +303,7 @@ impl AsRef<str> for Text {
 impl core::ops::Deref for Text {
     type Target = str;
 
+    #[inline]
     fn deref(&self) -> &str {
         self.as_str()
     }

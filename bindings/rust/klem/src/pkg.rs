@@ -13,6 +13,7 @@ pub struct PkgLength {
 /// Reads a package length at the front of a part, and fits it to the part. Gives the length and how many bytes spell it.
 ///
 /// Refuses with 5 a part of more than 65,536 bytes, with 1 and 2 one that ends too early.
+#[inline]
 pub fn pkg_length(input: &[u8]) -> Result<(PkgLength, usize), Error> {
     let mut a = Answer::new();
     // SAFETY: both pointers come with the lengths of what they point to, and the result is this call's own.
@@ -22,6 +23,7 @@ pub fn pkg_length(input: &[u8]) -> Result<(PkgLength, usize), Error> {
 }
 
 /// Reads a package length at the front of a part, without fitting it. Gives the raw length and how many bytes spell it.
+#[inline]
 pub fn raw_pkg_length(input: &[u8]) -> Result<(usize, usize), Error> {
     let mut a = Answer::new();
     // SAFETY: as above.
@@ -32,6 +34,7 @@ pub fn raw_pkg_length(input: &[u8]) -> Result<(usize, usize), Error> {
 
 impl PkgLength {
     /// Fits a raw length to a stream: 2 where the stream is shorter.
+    #[inline]
     pub fn from_raw_length(stream: &[u8], raw_length: usize) -> Result<PkgLength, Error> {
         let mut a = Answer::new();
         // SAFETY: as above.
@@ -41,6 +44,7 @@ impl PkgLength {
     }
 
     /// Whether the stream, of which the front is read, is still within the package.
+    #[inline]
     pub fn still_parsing(&self, stream: &[u8]) -> bool {
         // SAFETY: the pointer comes with the length of what it points to.
         unsafe { raw::klem_still_parsing(self.raw_length, self.end_offset, stream.as_ptr(), stream.len()) }

@@ -56,14 +56,7 @@ extern "C" {
         result: *mut u64,
         result_len: usize,
     ) -> u64;
-    pub(crate) fn klem_remove_level(
-        table: *mut u64,
-        table_len: usize,
-        path: *const u8,
-        path_len: usize,
-        result: *mut u64,
-        result_len: usize,
-    ) -> u64;
+    pub(crate) fn klem_remove_level(table: *mut u64, table_len: usize, path: *const u8, path_len: usize, result: *mut u64, result_len: usize) -> u64;
     pub(crate) fn klem_add_value(
         table: *mut u64,
         table_len: usize,
@@ -98,22 +91,9 @@ extern "C" {
     ) -> u64;
     pub(crate) fn klem_get(table: *const u64, table_len: usize, handle: u32, result: *mut u64, result_len: usize) -> u64;
     pub(crate) fn klem_set(table: *mut u64, table_len: usize, handle: u32, value: u64, result: *mut u64, result_len: usize) -> u64;
-    pub(crate) fn klem_get_handle(
-        table: *const u64,
-        table_len: usize,
-        path: *const u8,
-        path_len: usize,
-        result: *mut u64,
-        result_len: usize,
-    ) -> u64;
-    pub(crate) fn klem_get_by_path(
-        table: *const u64,
-        table_len: usize,
-        path: *const u8,
-        path_len: usize,
-        result: *mut u64,
-        result_len: usize,
-    ) -> u64;
+    pub(crate) fn klem_get_handle(table: *const u64, table_len: usize, path: *const u8, path_len: usize, result: *mut u64, result_len: usize) -> u64;
+    pub(crate) fn klem_get_by_path(table: *const u64, table_len: usize, path: *const u8, path_len: usize, result: *mut u64, result_len: usize)
+        -> u64;
     pub(crate) fn klem_set_by_path(
         table: *mut u64,
         table_len: usize,

@@ -25,6 +25,7 @@ impl TryFrom<u64> for LevelType {
     /// The number, where it is no type's.
     type Error = u64;
 
+    #[inline]
     fn try_from(number: u64) -> Result<LevelType, u64> {
         match number {
             0 => Ok(LevelType::Scope),
@@ -108,6 +109,7 @@ impl Table {
 
 impl Default for Table {
     /// A fresh table.
+    #[inline]
     fn default() -> Table {
         Table::new()
     }
@@ -120,6 +122,7 @@ impl<M> Table<M> {
     }
 
     /// The memory, as it was lent.
+    #[inline]
     pub fn into_memory(self) -> M {
         self.0
     }
@@ -127,11 +130,13 @@ impl<M> Table<M> {
 
 impl<M: AsRef<[u64]>> Table<M> {
     /// The words.
+    #[inline]
     pub fn words(&self) -> &[u64] {
         self.0.as_ref()
     }
 
     /// Whether the memory holds a table.
+    #[inline]
     pub fn is_well_formed(&self) -> bool {
         let t = self.words();
         // SAFETY: the pointer comes with the length of what it points to.
@@ -139,6 +144,7 @@ impl<M: AsRef<[u64]>> Table<M> {
     }
 
     /// The object of a handle; 21.
+    #[inline]
     pub fn get(&self, handle: Handle) -> Result<u64, Error> {
         let t = self.words();
         let mut a = Answer::new();
@@ -149,6 +155,7 @@ impl<M: AsRef<[u64]>> Table<M> {
     }
 
     /// The handle that an absolute path is bound to, exactly: 11, 10, 13, 15, 16.
+    #[inline]
     pub fn get_handle(&self, path: &Path) -> Result<Handle, Error> {
         let t = self.words();
         let mut a = Answer::new();
@@ -159,6 +166,7 @@ impl<M: AsRef<[u64]>> Table<M> {
     }
 
     /// The object that an absolute path is bound to, exactly: as [`get_handle`](Table::get_handle), then its object.
+    #[inline]
     pub fn get_by_path(&self, path: &Path) -> Result<u64, Error> {
         let t = self.words();
         let mut a = Answer::new();
@@ -170,6 +178,7 @@ impl<M: AsRef<[u64]>> Table<M> {
 
     /// Searches for a value. A bare segment is looked for in the scope, then in each scope around it, up to `\`; any other path is
     /// resolved against the scope and looked up there only.
+    #[inline]
     pub fn search(&self, path: &Path, scope: &Path) -> Result<Found, Error> {
         let t = self.words();
         let (full, [handle, asked, _]) = given(|out, a| {
@@ -180,6 +189,7 @@ impl<M: AsRef<[u64]>> Table<M> {
     }
 
     /// Searches for a level in the same way; a path that is not one bare segment is given back as it is, with no scope asked.
+    #[inline]
     pub fn search_for_level(&self, path: &Path, scope: &Path) -> Result<FoundLevel, Error> {
         let t = self.words();
         let (full, [asked, _, _]) = given(|out, a| {
@@ -192,6 +202,7 @@ impl<M: AsRef<[u64]>> Table<M> {
 
 impl<M: AsMut<[u64]>> Table<M> {
     /// Makes a fresh table in memory that is lent; 24 where it has not 1,153 words.
+    #[inline]
     pub fn fresh_in(memory: M) -> Result<Table<M>, Error> {
         let mut table = Table(memory);
         table.reset()?;
@@ -199,11 +210,13 @@ impl<M: AsMut<[u64]>> Table<M> {
     }
 
     /// The words, for whoever saves and restores them. Whatever is written here, the next call tests it.
+    #[inline]
     pub fn words_mut(&mut self) -> &mut [u64] {
         self.0.as_mut()
     }
 
     /// Makes the table fresh again: the root, and nothing else. 24 where it has not 1,153 words.
+    #[inline]
     pub fn reset(&mut self) -> Result<(), Error> {
         let t = self.words_mut();
         let mut a = Answer::new();
@@ -214,6 +227,7 @@ impl<M: AsMut<[u64]>> Table<M> {
     }
 
     /// Adds a level at an absolute path; `\`, and a level that is there, are left as they are. 11, 10, 15, 18.
+    #[inline]
     pub fn add_level(&mut self, path: &Path, typ: LevelType) -> Result<(), Error> {
         let t = self.words_mut();
         let mut a = Answer::new();
@@ -223,6 +237,7 @@ impl<M: AsMut<[u64]>> Table<M> {
     }
 
     /// Removes a level with everything below it; objects stay readable by their handles. 11, 10, 14, 15.
+    #[inline]
     pub fn remove_level(&mut self, path: &Path) -> Result<(), Error> {
         let t = self.words_mut();
         let mut a = Answer::new();
@@ -232,6 +247,7 @@ impl<M: AsMut<[u64]>> Table<M> {
     }
 
     /// Adds a value under an absolute path, and gives its handle. 11, 10, 13, 15, 17, 19, 20.
+    #[inline]
     pub fn add_value(&mut self, path: &Path, value: u64) -> Result<Handle, Error> {
         let t = self.words_mut();
         let mut a = Answer::new();
@@ -242,41 +258,31 @@ impl<M: AsMut<[u64]>> Table<M> {
     }
 
     /// Adds a value under a path as seen from a scope, and gives its handle.
+    #[inline]
     pub fn add_value_at_resolved_path(&mut self, path: &Path, scope: &Path, value: u64) -> Result<Handle, Error> {
         let t = self.words_mut();
         let mut a = Answer::new();
         // SAFETY: as above.
-        let n = unsafe {
-            raw::klem_add_value_at_resolved_path(t.as_mut_ptr(), t.len(), path.ptr(), PATH, scope.ptr(), PATH, value, a.ptr(), RESULT)
-        };
+        let n = unsafe { raw::klem_add_value_at_resolved_path(t.as_mut_ptr(), t.len(), path.ptr(), PATH, scope.ptr(), PATH, value, a.ptr(), RESULT) };
         let [handle, _, _] = a.read(n)?;
         Ok(Handle(handle as u32))
     }
 
     /// Binds a path to what a target is bound to, both as seen from a scope, and gives that handle.
+    #[inline]
     pub fn add_alias_at_resolved_path(&mut self, path: &Path, scope: &Path, target: &Path) -> Result<Handle, Error> {
         let t = self.words_mut();
         let mut a = Answer::new();
         // SAFETY: as above.
         let n = unsafe {
-            raw::klem_add_alias_at_resolved_path(
-                t.as_mut_ptr(),
-                t.len(),
-                path.ptr(),
-                PATH,
-                scope.ptr(),
-                PATH,
-                target.ptr(),
-                PATH,
-                a.ptr(),
-                RESULT,
-            )
+            raw::klem_add_alias_at_resolved_path(t.as_mut_ptr(), t.len(), path.ptr(), PATH, scope.ptr(), PATH, target.ptr(), PATH, a.ptr(), RESULT)
         };
         let [handle, _, _] = a.read(n)?;
         Ok(Handle(handle as u32))
     }
 
     /// Sets the object of a handle; 21.
+    #[inline]
     pub fn set(&mut self, handle: Handle, value: u64) -> Result<(), Error> {
         let t = self.words_mut();
         let mut a = Answer::new();
@@ -286,6 +292,7 @@ impl<M: AsMut<[u64]>> Table<M> {
     }
 
     /// Sets the object that an absolute path is bound to, exactly.
+    #[inline]
     pub fn set_by_path(&mut self, path: &Path, value: u64) -> Result<(), Error> {
         let t = self.words_mut();
         let mut a = Answer::new();
