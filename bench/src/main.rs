@@ -40,7 +40,7 @@ fn main() {
         let args: Vec<String> = std::env::args().skip(1).collect();
         let args: Vec<&str> = args.iter().map(String::as_str).collect();
         match args[..] {
-            [] => every_row(5),
+            [] => every_row(25),
             ["--rounds", n] => every_row(n.parse().expect("a number of rounds")),
             ["--list"] => {
                 for (i, row) in rows::rows().iter().enumerate() {

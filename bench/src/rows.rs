@@ -41,9 +41,10 @@ fn context() -> AmlContext {
     AmlContext::new(Box::new(NoHardware), DebugVerbosity::None)
 }
 
-/// An answer is used, and given back to whoever allocated it, within the call's time.
+/// An answer is looked at where it is, and dropped, within the call's time.
+#[inline(always)]
 fn done<T>(answer: T) {
-    drop(black_box(answer));
+    black_box(&answer);
 }
 
 fn path(text: &str) -> Path {
@@ -68,9 +69,9 @@ pub fn rows() -> Vec<Row> {
     for size in [1, 4, 16, 64] {
         rows.push(checked(size));
     }
-    rows.push(run("run a block of 64 KiB", vec![inputs::block_of(65_536)], 5));
-    rows.push(run("run a loop of 100,000 turns", vec![inputs::turns(100_000)], 2));
-    rows.push(run("run short blocks (1 to 16 bytes)", inputs::short_blocks(), 8_000));
+    rows.push(run("run a block of 64 KiB", vec![inputs::block_of(65_536)], 1));
+    rows.push(run("run a loop of 100,000 turns", vec![inputs::turns(100_000)], 1));
+    rows.push(run("run short blocks (1 to 16 bytes)", inputs::short_blocks(), 2_400));
     for levels in [8, 32, 128] {
         rows.push(grown(levels));
     }
@@ -102,7 +103,7 @@ fn package_lengths() -> Row {
     let mut c = context();
     reading(
         "package length",
-        400_000,
+        64_000,
         inputs.clone(),
         inputs,
         |b| done(klem::pkg_length(black_box(b))),
@@ -128,7 +129,7 @@ fn names() -> Row {
     let mut c = context();
     reading(
         "name from bytes",
-        100_000,
+        24_000,
         inputs.clone(),
         inputs,
         |b| done(klem::name_string(black_box(b))),
@@ -151,7 +152,7 @@ fn names() -> Row {
 fn text_read() -> Row {
     reading(
         "path from text",
-        200_000,
+        24_000,
         inputs::TEXTS.to_vec(),
         inputs::TEXTS.to_vec(),
         |t| done(Path::from_text(black_box(t).as_bytes())),
@@ -168,7 +169,7 @@ fn text_read() -> Row {
 fn text_written() -> Row {
     reading(
         "text from a path",
-        200_000,
+        24_000,
         inputs::TEXTS.map(path).to_vec(),
         inputs::TEXTS.map(name).to_vec(),
         |p| {
@@ -191,7 +192,7 @@ fn normalised() -> Row {
     let (paths, names) = (inputs::BENT.map(path), inputs::BENT.map(name));
     Row {
         name: "normalise".into(),
-        calls: 100_000,
+        calls: 24_000,
         same: Box::new(|| {
             for t in inputs::BENT {
                 equal(
@@ -213,7 +214,7 @@ fn normalised() -> Row {
 fn resolved() -> Row {
     reading(
         "resolve against a scope",
-        200_000,
+        24_000,
         inputs::SEEN.map(|(p, s)| (path(p), path(s))).to_vec(),
         inputs::SEEN.map(|(p, s)| (name(p), name(s))).to_vec(),
         |(p, s)| done(black_box(p).resolve(black_box(s))),
@@ -276,7 +277,7 @@ fn built() -> Row {
     let mut table = Table::new();
     Row {
         name: "build a namespace of 100 levels and 400 values, an edit".into(),
-        calls: 40 * edits,
+        calls: 6 * edits,
         same: Box::new(move || same_board(&board)),
         port: Box::new(move |n| {
             timed(&mut || {
@@ -339,11 +340,11 @@ fn board() -> Vec<Row> {
     let board = Rc::new(board_of(inputs::board_levels()));
     let names = inputs::board_searches(&board.levels);
     assert_eq!(names.len(), 6);
-    let search = searched("search a bare segment from depth 6, 1 to 6 scopes asked", 24_000, board.clone(), names);
+    let search = searched("search a bare segment from depth 6, 1 to 6 scopes asked", 3_000, board.clone(), names);
     let (port, rust, same) = (board.clone(), board.clone(), board.clone());
     let lookup = reading(
         "exact lookup, 400 values",
-        40_000,
+        4_000,
         board.values.iter().map(|(p, _)| path(p)).collect(),
         board.values.iter().map(|(p, _)| name(p)).collect(),
         move |p| done(port.table.get_handle(black_box(p))),
@@ -353,7 +354,7 @@ fn board() -> Vec<Row> {
     let (port, rust, same) = (board.clone(), board.clone(), board.clone());
     let get = reading(
         "object of a handle, 400 objects",
-        40_000,
+        4_000,
         (0..400).map(klem::Handle).collect(),
         (0..400).map(aml::namespace::AmlHandle).collect(),
         move |h| done(port.table.get(black_box(*h))),
@@ -369,7 +370,7 @@ fn board() -> Vec<Row> {
 
 fn grown(n: usize) -> Row {
     let board = Rc::new(board_of(inputs::levels_of(n)));
-    searched(&format!("the same search with {n} levels and {} values", 4 * (n - 1)), 24_000, board, (0..6).rev().map(inputs::own).collect())
+    searched(&format!("the same search with {n} levels and {} values", 4 * (n - 1)), 3_000, board, (0..6).rev().map(inputs::own).collect())
 }
 
 type Cells = Vec<Option<u64>>;
@@ -439,7 +440,7 @@ fn checked(kib: usize) -> Row {
     let check = vec![block.clone()];
     reading(
         &format!("check a block of {kib} KiB (the Rust has no check: it runs it)"),
-        (320 / kib).max(5),
+        (64 / kib).max(1),
         vec![block.clone()],
         vec![block],
         |b| done(klem::check(black_box(b))),

@@ -26,11 +26,15 @@ pub fn is_name_char(byte: u8) -> bool {
 /// Reads a NameString at the front of AML bytes. Gives the path and how many bytes it used.
 #[inline]
 pub fn name_string(input: &[u8]) -> Result<(Path, usize), Error> {
-    let (path, [used, _, _]) = given(|out, a| {
-        // SAFETY: every pointer comes with the length of what it points to; `out` and the result are this call's own.
-        unsafe { raw::klem_name_string(input.as_ptr(), input.len(), out, PATH, a, RESULT) }
-    })?;
-    Ok((path, used as usize))
+    given(
+        (Path::EMPTY, 0),
+        |(path, _)| path,
+        |out, a| {
+            // SAFETY: every pointer comes with the length of what it points to; `out` and the result are this call's own.
+            unsafe { raw::klem_name_string(input.as_ptr(), input.len(), out, PATH, a, RESULT) }
+        },
+        |(_, used), [n, _, _]| *used = n as usize,
+    )
 }
 
 /// A path: at most 32 components, each `\` (first alone), `^` or a segment of four characters. The empty path is a path.
@@ -51,14 +55,32 @@ pub enum Component {
     Segment([u8; 4]),
 }
 
-// A call that writes a path. The path is zeros until the call gives one, and is dropped where it refuses.
+// A call that writes a path into what is to be given: `blank` is that without the path and the values, `path` says where its path is, and
+// `fill` puts the values in. The path is written where it is returned, since a copy of it right behind the call would wait for the
+// call's own stores.
 #[inline]
-pub(crate) fn given(call: impl FnOnce(*mut u8, *mut u64) -> u64) -> Result<(Path, [u64; 3]), Error> {
-    let mut out = [0u8; PATH];
+pub(crate) fn given<T>(
+    blank: T,
+    path: impl FnOnce(&mut T) -> &mut Path,
+    call: impl FnOnce(*mut u8, *mut u64) -> u64,
+    fill: impl FnOnce(&mut T, [u64; 3]),
+) -> Result<T, Error> {
     let mut a = Answer::new();
-    let n = call(out.as_mut_ptr(), a.ptr());
-    let values = a.read(n)?;
-    Ok((Path(out), values))
+    let mut said = Ok(blank);
+    if let Ok(given) = &mut said {
+        let n = call(path(given).0.as_mut_ptr(), a.ptr());
+        match a.read(n) {
+            Ok(values) => fill(given, values),
+            Err(e) => said = Err(e),
+        }
+    }
+    said
+}
+
+// A call that gives a path and nothing else.
+#[inline]
+fn given_path(call: impl FnOnce(*mut u8, *mut u64) -> u64) -> Result<Path, Error> {
+    given(Path::EMPTY, |path| path, call, |_, _| ())
 }
 
 impl Path {
@@ -75,33 +97,29 @@ impl Path {
     #[inline]
     pub fn root() -> Path {
         // The call refuses nothing but slices of a wrong length, and these are right.
-        match given(|out, a| {
+        given_path(|out, a| {
             // SAFETY: both are this call's own, with their lengths.
             unsafe { raw::klem_root(out, PATH, a, RESULT) }
-        }) {
-            Ok((path, _)) => path,
-            Err(_) => Path::EMPTY,
-        }
+        })
+        .unwrap_or(Path::EMPTY)
     }
 
     /// The path of one segment alone; 26 where the four bytes are no segment.
     #[inline]
     pub fn from_name_seg(seg: [u8; 4]) -> Result<Path, Error> {
-        let (path, _) = given(|out, a| {
+        given_path(|out, a| {
             // SAFETY: every pointer comes with the length of what it points to; `out` and the result are this call's own.
             unsafe { raw::klem_from_name_seg(seg.as_ptr(), seg.len(), out, PATH, a, RESULT) }
-        })?;
-        Ok(path)
+        })
     }
 
     /// The path that a count and 32 components of four bytes hold; 26 where they hold none.
     #[inline]
     pub fn from_components(count: usize, bytes: &[u8; 128]) -> Result<Path, Error> {
-        let (path, _) = given(|out, a| {
+        given_path(|out, a| {
             // SAFETY: as above.
             unsafe { raw::klem_from_components(count, bytes.as_ptr(), bytes.len(), out, PATH, a, RESULT) }
-        })?;
-        Ok(path)
+        })
     }
 
     /// The path that memory holds, as [`as_memory`](Path::as_memory) shows it; 26 where it holds none.
@@ -114,11 +132,10 @@ impl Path {
     /// The path of a text, as `\_SB_.PCI0` or `^FOO`.
     #[inline]
     pub fn from_text(text: &[u8]) -> Result<Path, Error> {
-        let (path, _) = given(|out, a| {
+        given_path(|out, a| {
             // SAFETY: as above.
             unsafe { raw::klem_from_str(text.as_ptr(), text.len(), out, PATH, a, RESULT) }
-        })?;
-        Ok(path)
+        })
     }
 
     /// The path that a NameString spells, and how many of the bytes it used: [`name_string`].
@@ -206,31 +223,28 @@ impl Path {
     /// The normal form: each `^` takes away the segment before it, 10 where there is none.
     #[inline]
     pub fn normalize(&self) -> Result<Path, Error> {
-        let (path, _) = given(|out, a| {
+        given_path(|out, a| {
             // SAFETY: every pointer comes with the length of what it points to; `out` and the result are this call's own.
             unsafe { raw::klem_normalize(self.0.as_ptr(), PATH, out, PATH, a, RESULT) }
-        })?;
-        Ok(path)
+        })
     }
 
     /// The normal form without its last segment; 12 where it has none.
     #[inline]
     pub fn parent(&self) -> Result<Path, Error> {
-        let (path, _) = given(|out, a| {
+        given_path(|out, a| {
             // SAFETY: as above.
             unsafe { raw::klem_parent(self.0.as_ptr(), PATH, out, PATH, a, RESULT) }
-        })?;
-        Ok(path)
+        })
     }
 
     /// The path as seen from a scope, which must be absolute (11): a normal absolute path.
     #[inline]
     pub fn resolve(&self, scope: &Path) -> Result<Path, Error> {
-        let (path, _) = given(|out, a| {
+        given_path(|out, a| {
             // SAFETY: as above.
             unsafe { raw::klem_resolve(self.0.as_ptr(), PATH, scope.0.as_ptr(), PATH, out, PATH, a, RESULT) }
-        })?;
-        Ok(path)
+        })
     }
 
     #[inline]

@@ -181,22 +181,33 @@ impl<M: AsRef<[u64]>> Table<M> {
     #[inline]
     pub fn search(&self, path: &Path, scope: &Path) -> Result<Found, Error> {
         let t = self.words();
-        let (full, [handle, asked, _]) = given(|out, a| {
-            // SAFETY: every pointer comes with the length of what it points to; `out` and the result are this call's own.
-            unsafe { raw::klem_search(t.as_ptr(), t.len(), path.ptr(), PATH, scope.ptr(), PATH, out, PATH, a, RESULT) }
-        })?;
-        Ok(Found { path: full, handle: Handle(handle as u32), asked: asked as usize })
+        given(
+            Found { path: Path::EMPTY, handle: Handle(0), asked: 0 },
+            |found| &mut found.path,
+            |out, a| {
+                // SAFETY: every pointer comes with the length of what it points to; `out` and the result are this call's own.
+                unsafe { raw::klem_search(t.as_ptr(), t.len(), path.ptr(), PATH, scope.ptr(), PATH, out, PATH, a, RESULT) }
+            },
+            |found, [handle, asked, _]| {
+                found.handle = Handle(handle as u32);
+                found.asked = asked as usize;
+            },
+        )
     }
 
     /// Searches for a level in the same way; a path that is not one bare segment is given back as it is, with no scope asked.
     #[inline]
     pub fn search_for_level(&self, path: &Path, scope: &Path) -> Result<FoundLevel, Error> {
         let t = self.words();
-        let (full, [asked, _, _]) = given(|out, a| {
-            // SAFETY: as above.
-            unsafe { raw::klem_search_for_level(t.as_ptr(), t.len(), path.ptr(), PATH, scope.ptr(), PATH, out, PATH, a, RESULT) }
-        })?;
-        Ok(FoundLevel { path: full, asked: asked as usize })
+        given(
+            FoundLevel { path: Path::EMPTY, asked: 0 },
+            |found| &mut found.path,
+            |out, a| {
+                // SAFETY: as above.
+                unsafe { raw::klem_search_for_level(t.as_ptr(), t.len(), path.ptr(), PATH, scope.ptr(), PATH, out, PATH, a, RESULT) }
+            },
+            |found, [asked, _, _]| found.asked = asked as usize,
+        )
     }
 }
 
