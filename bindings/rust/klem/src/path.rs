@@ -1,6 +1,6 @@
 use crate::raw::{self, Answer, PATH, RESULT};
 use crate::Error;
-use core::{convert::TryFrom, fmt, str};
+use core::{fmt, str};
 
 /// Whether a byte may start a segment: A to Z, or `_`.
 #[inline]

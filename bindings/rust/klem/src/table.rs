@@ -1,7 +1,6 @@
 use crate::path::given;
 use crate::raw::{self, Answer, PATH, RESULT, TABLE};
 use crate::{Error, Path};
-use core::convert::TryFrom;
 
 /// What a level is.
 #[derive(Clone, Copy, PartialEq, Eq, Hash, Debug)]

@@ -1,7 +1,6 @@
 //! klem over the bindings: what crates/klem does with a script, here with calls of this crate, so that recorded scripts can be run
 //! through the archive. Nothing here knows what an answer should be.
 use klem::{check, name_string, pkg_length, run, Ended, Error, Frame, Handle, LevelType, Path, Table};
-use std::convert::TryFrom;
 
 const MOST_LINE: usize = 200_000;
 const MOST_BYTES: usize = 100_000;
