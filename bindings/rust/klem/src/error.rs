@@ -1,0 +1,187 @@
+use core::fmt;
+
+/// A refusal: the 26 of the table of refusals, under its names and in its order, each with its place where the table gives one.
+///
+/// [`number`](Error::number) gives the table's number, [`place`](Error::place) the place, 0 where there is none. docs/REFUSALS.md
+/// says of each when it is given and by which calls.
+#[derive(Clone, Copy, PartialEq, Eq, Hash, Debug)]
+pub enum Error {
+    /// 1: a byte is wanted past the end of the part being read; where that end is.
+    UnexpectedEndOfStream(usize),
+    /// 2: a package length passes its part, or ends before its contents; the offset of its lead byte.
+    InvalidPkgLength(usize),
+    /// 3: a byte starts nothing that is allowed there; its offset.
+    BadOpcode(usize),
+    /// 4: a statement or a term at depth 17; the offset of its first byte.
+    TooDeep(usize),
+    /// 5: more than 65,536 bytes.
+    BlockTooLong,
+    /// 6: a byte is not a lead or a name character; its offset.
+    BadNameByte(usize),
+    /// 7: a name without components, or an empty text.
+    EmptyNamesAreInvalid,
+    /// 8: a segment of a text is wrong; where the segment starts, after its `^`s.
+    InvalidNameSeg(usize),
+    /// 9: a well-formed name or a result has more than 32 components.
+    TooManyComponents,
+    /// 10: a `^` has no segment to take away.
+    InvalidNormalizedName,
+    /// 11: an absolute path is needed.
+    NotAbsolute,
+    /// 12: the normal form is `\` or empty, and has no parent.
+    RootHasNoParent,
+    /// 13: `\` stands where a last segment is needed.
+    RootNotAllowed,
+    /// 14: `\` was to be removed.
+    TriedToRemoveRootNamespace,
+    /// 15: a level is missing; how many segments lead up to it, itself counted.
+    LevelDoesNotExist(usize),
+    /// 16: an exact name, or a whole search, finds no value.
+    ValueDoesNotExist,
+    /// 17: a value has that name at that level already.
+    NameCollision,
+    /// 18: 128 levels live, the root counted.
+    LevelsFull,
+    /// 19: 512 bindings live.
+    BindingsFull,
+    /// 20: 512 objects were made.
+    ObjectsFull,
+    /// 21: that handle was never handed out.
+    NoSuchHandle,
+    /// 22: the next unit would pass the budget.
+    BudgetSpent,
+    /// 23: an unset cell is read; its number.
+    Unset(usize),
+    /// 24: the table's memory is not well-formed.
+    BadTable,
+    /// 25: the text does not fit.
+    OutTooSmall,
+    /// 26: memory holds no path.
+    BadPath,
+    /// A number that the table of refusals does not have. No call of this crate gives it while the archive is the one that the crate
+    /// was written for: the archive's own 27 and 28 are for slices of a wrong length and for a wrong level type, and the types here
+    /// have neither. It is here so that an archive that does not fit is seen, and nothing panics.
+    NotInTable(u64),
+}
+
+impl Error {
+    pub(crate) fn numbered(number: u64, place: usize) -> Error {
+        match number {
+            1 => Error::UnexpectedEndOfStream(place),
+            2 => Error::InvalidPkgLength(place),
+            3 => Error::BadOpcode(place),
+            4 => Error::TooDeep(place),
+            5 => Error::BlockTooLong,
+            6 => Error::BadNameByte(place),
+            7 => Error::EmptyNamesAreInvalid,
+            8 => Error::InvalidNameSeg(place),
+            9 => Error::TooManyComponents,
+            10 => Error::InvalidNormalizedName,
+            11 => Error::NotAbsolute,
+            12 => Error::RootHasNoParent,
+            13 => Error::RootNotAllowed,
+            14 => Error::TriedToRemoveRootNamespace,
+            15 => Error::LevelDoesNotExist(place),
+            16 => Error::ValueDoesNotExist,
+            17 => Error::NameCollision,
+            18 => Error::LevelsFull,
+            19 => Error::BindingsFull,
+            20 => Error::ObjectsFull,
+            21 => Error::NoSuchHandle,
+            22 => Error::BudgetSpent,
+            23 => Error::Unset(place),
+            24 => Error::BadTable,
+            25 => Error::OutTooSmall,
+            26 => Error::BadPath,
+            other => Error::NotInTable(other),
+        }
+    }
+
+    /// The number in the table of refusals.
+    pub const fn number(self) -> u64 {
+        match self {
+            Error::UnexpectedEndOfStream(_) => 1,
+            Error::InvalidPkgLength(_) => 2,
+            Error::BadOpcode(_) => 3,
+            Error::TooDeep(_) => 4,
+            Error::BlockTooLong => 5,
+            Error::BadNameByte(_) => 6,
+            Error::EmptyNamesAreInvalid => 7,
+            Error::InvalidNameSeg(_) => 8,
+            Error::TooManyComponents => 9,
+            Error::InvalidNormalizedName => 10,
+            Error::NotAbsolute => 11,
+            Error::RootHasNoParent => 12,
+            Error::RootNotAllowed => 13,
+            Error::TriedToRemoveRootNamespace => 14,
+            Error::LevelDoesNotExist(_) => 15,
+            Error::ValueDoesNotExist => 16,
+            Error::NameCollision => 17,
+            Error::LevelsFull => 18,
+            Error::BindingsFull => 19,
+            Error::ObjectsFull => 20,
+            Error::NoSuchHandle => 21,
+            Error::BudgetSpent => 22,
+            Error::Unset(_) => 23,
+            Error::BadTable => 24,
+            Error::OutTooSmall => 25,
+            Error::BadPath => 26,
+            Error::NotInTable(other) => other,
+        }
+    }
+
+    /// The place: an offset, a count of segments or a cell, as the case says; 0 where it has none.
+    pub const fn place(self) -> usize {
+        match self {
+            Error::UnexpectedEndOfStream(place)
+            | Error::InvalidPkgLength(place)
+            | Error::BadOpcode(place)
+            | Error::TooDeep(place)
+            | Error::BadNameByte(place)
+            | Error::InvalidNameSeg(place)
+            | Error::LevelDoesNotExist(place)
+            | Error::Unset(place) => place,
+            _ => 0,
+        }
+    }
+
+    /// The name in the table of refusals.
+    pub const fn name(self) -> &'static str {
+        match self {
+            Error::UnexpectedEndOfStream(_) => "UnexpectedEndOfStream",
+            Error::InvalidPkgLength(_) => "InvalidPkgLength",
+            Error::BadOpcode(_) => "BadOpcode",
+            Error::TooDeep(_) => "TooDeep",
+            Error::BlockTooLong => "BlockTooLong",
+            Error::BadNameByte(_) => "BadNameByte",
+            Error::EmptyNamesAreInvalid => "EmptyNamesAreInvalid",
+            Error::InvalidNameSeg(_) => "InvalidNameSeg",
+            Error::TooManyComponents => "TooManyComponents",
+            Error::InvalidNormalizedName => "InvalidNormalizedName",
+            Error::NotAbsolute => "NotAbsolute",
+            Error::RootHasNoParent => "RootHasNoParent",
+            Error::RootNotAllowed => "RootNotAllowed",
+            Error::TriedToRemoveRootNamespace => "TriedToRemoveRootNamespace",
+            Error::LevelDoesNotExist(_) => "LevelDoesNotExist",
+            Error::ValueDoesNotExist => "ValueDoesNotExist",
+            Error::NameCollision => "NameCollision",
+            Error::LevelsFull => "LevelsFull",
+            Error::BindingsFull => "BindingsFull",
+            Error::ObjectsFull => "ObjectsFull",
+            Error::NoSuchHandle => "NoSuchHandle",
+            Error::BudgetSpent => "BudgetSpent",
+            Error::Unset(_) => "Unset",
+            Error::BadTable => "BadTable",
+            Error::OutTooSmall => "OutTooSmall",
+            Error::BadPath => "BadPath",
+            Error::NotInTable(_) => "NotInTable",
+        }
+    }
+}
+
+impl fmt::Display for Error {
+    /// As `klem` prints it: `refused 6 at 3 BadNameByte`.
+    fn fmt(&self, f: &mut fmt::Formatter<'_>) -> fmt::Result {
+        write!(f, "refused {} at {} {}", self.number(), self.place(), self.name())
+    }
+}

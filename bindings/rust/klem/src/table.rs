@@ -1,0 +1,313 @@
+use crate::path::given;
+use crate::raw::{self, Answer, PATH, RESULT, TABLE};
+use crate::{Error, Path};
+
+/// What a level is.
+#[derive(Clone, Copy, PartialEq, Eq, Hash, Debug)]
+#[repr(u64)]
+pub enum LevelType {
+    /// A scope.
+    Scope = 0,
+    /// A device.
+    Device = 1,
+    /// A legacy `Processor` object's sub-objects.
+    Processor = 2,
+    /// A `PowerResource` object's sub-objects.
+    PowerResource = 3,
+    /// A `ThermalZone` object's sub-objects.
+    ThermalZone = 4,
+    /// The locals of a method that runs.
+    MethodLocals = 5,
+}
+
+impl TryFrom<u64> for LevelType {
+    /// The number, where it is no type's.
+    type Error = u64;
+
+    #[inline]
+    fn try_from(number: u64) -> Result<LevelType, u64> {
+        match number {
+            0 => Ok(LevelType::Scope),
+            1 => Ok(LevelType::Device),
+            2 => Ok(LevelType::Processor),
+            3 => Ok(LevelType::PowerResource),
+            4 => Ok(LevelType::ThermalZone),
+            5 => Ok(LevelType::MethodLocals),
+            other => Err(other),
+        }
+    }
+}
+
+/// A handle to an object of a table. Handles are handed out from 0 and never again, so one may be kept across edits. Any number may
+/// be asked for: one that was never handed out is refused by 21.
+#[derive(Clone, Copy, PartialEq, Eq, PartialOrd, Ord, Hash, Debug)]
+pub struct Handle(pub u32);
+
+/// What a search found.
+#[derive(Clone, Copy, PartialEq, Eq, Debug)]
+pub struct Found {
+    /// The full name.
+    pub path: Path,
+    /// The object's handle.
+    pub handle: Handle,
+    /// How many scopes were asked.
+    pub asked: usize,
+}
+
+/// What a search for a level found.
+#[derive(Clone, Copy, PartialEq, Eq, Debug)]
+pub struct FoundLevel {
+    /// The level's full name; the path as it was given where the search rules do not apply to it.
+    pub path: Path,
+    /// How many scopes were asked; 0 where the search rules do not apply.
+    pub asked: usize,
+}
+
+/// A namespace in 1,153 words of memory: levels, values, aliases, lookup and search.
+///
+/// `M` is where the words are: `[u64; 1153]` (the default: the table owns them, and [`Table::new`] is a constant, for a `static`),
+/// `&mut [u64]` (they are lent, from a page that the kernel has), `&[u64]` (for calls that only read), a `Box` or a `Vec`, or
+/// anything else that gives a slice of words. The memory has no pointers: a copy of it is a copy of the namespace, and it may stand
+/// wherever it likes.
+///
+/// Every call tests the whole memory first, and refuses with 24 what is not well-formed (docs/TABLE.md). A refused call leaves the
+/// memory as it was.
+///
+/// ```
+/// use klem::{Handle, LevelType, Path, Table};
+///
+/// let mut page = vec![0u64; Table::WORDS];
+/// let mut table = Table::fresh_in(&mut page[..])?;
+/// table.add_level(&"\\_SB_".parse()?, LevelType::Scope)?;
+/// let handle = table.add_value(&"\\_SB_._UID".parse()?, 7)?;
+/// let found = table.search(&"_UID".parse()?, &"\\_SB_.PCI0".parse()?)?;
+/// assert_eq!((found.handle, found.asked), (handle, 2));
+/// assert_eq!(table.get(handle)?, 7);
+/// # Ok::<(), klem::Error>(())
+/// ```
+#[derive(Clone, Copy, Debug, PartialEq, Eq)]
+pub struct Table<M = [u64; TABLE]>(M);
+
+// A fresh table: the root alone, whose word has rank 1 and nothing else.
+const FRESH: [u64; TABLE] = {
+    let mut words = [0; TABLE];
+    words[0] = 1 << 45;
+    words
+};
+
+impl Table {
+    /// How many words a table has.
+    pub const WORDS: usize = TABLE;
+
+    /// A fresh table that owns its words: the root, and nothing else. It is a constant, so that a kernel can have it as a `static`
+    /// and need not have 9 KB of stack for it.
+    pub const fn new() -> Table {
+        Table(FRESH)
+    }
+}
+
+impl Default for Table {
+    /// A fresh table.
+    #[inline]
+    fn default() -> Table {
+        Table::new()
+    }
+}
+
+impl<M> Table<M> {
+    /// Takes memory as it is. Nothing is tested here: every call tests it.
+    pub const fn over(memory: M) -> Table<M> {
+        Table(memory)
+    }
+
+    /// The memory, as it was lent.
+    #[inline]
+    pub fn into_memory(self) -> M {
+        self.0
+    }
+}
+
+impl<M: AsRef<[u64]>> Table<M> {
+    /// The words.
+    #[inline]
+    pub fn words(&self) -> &[u64] {
+        self.0.as_ref()
+    }
+
+    /// Whether the memory holds a table.
+    #[inline]
+    pub fn is_well_formed(&self) -> bool {
+        let t = self.words();
+        // SAFETY: the pointer comes with the length of what it points to.
+        unsafe { raw::klem_well_formed(t.as_ptr(), t.len()) }
+    }
+
+    /// The object of a handle; 21.
+    #[inline]
+    pub fn get(&self, handle: Handle) -> Result<u64, Error> {
+        let t = self.words();
+        let mut a = Answer::new();
+        // SAFETY: both pointers come with the lengths of what they point to, and the result is this call's own.
+        let n = unsafe { raw::klem_get(t.as_ptr(), t.len(), handle.0, a.ptr(), RESULT) };
+        let [value, _, _] = a.read(n)?;
+        Ok(value)
+    }
+
+    /// The handle that an absolute path is bound to, exactly: 11, 10, 13, 15, 16.
+    #[inline]
+    pub fn get_handle(&self, path: &Path) -> Result<Handle, Error> {
+        let t = self.words();
+        let mut a = Answer::new();
+        // SAFETY: as above.
+        let n = unsafe { raw::klem_get_handle(t.as_ptr(), t.len(), path.ptr(), PATH, a.ptr(), RESULT) };
+        let [handle, _, _] = a.read(n)?;
+        Ok(Handle(handle as u32))
+    }
+
+    /// The object that an absolute path is bound to, exactly: as [`get_handle`](Table::get_handle), then its object.
+    #[inline]
+    pub fn get_by_path(&self, path: &Path) -> Result<u64, Error> {
+        let t = self.words();
+        let mut a = Answer::new();
+        // SAFETY: as above.
+        let n = unsafe { raw::klem_get_by_path(t.as_ptr(), t.len(), path.ptr(), PATH, a.ptr(), RESULT) };
+        let [value, _, _] = a.read(n)?;
+        Ok(value)
+    }
+
+    /// Searches for a value. A bare segment is looked for in the scope, then in each scope around it, up to `\`; any other path is
+    /// resolved against the scope and looked up there only.
+    #[inline]
+    pub fn search(&self, path: &Path, scope: &Path) -> Result<Found, Error> {
+        let t = self.words();
+        given(
+            Found { path: Path::EMPTY, handle: Handle(0), asked: 0 },
+            |found| &mut found.path,
+            |out, a| {
+                // SAFETY: every pointer comes with the length of what it points to; `out` and the result are this call's own.
+                unsafe { raw::klem_search(t.as_ptr(), t.len(), path.ptr(), PATH, scope.ptr(), PATH, out, PATH, a, RESULT) }
+            },
+            |found, [handle, asked, _]| {
+                found.handle = Handle(handle as u32);
+                found.asked = asked as usize;
+            },
+        )
+    }
+
+    /// Searches for a level in the same way; a path that is not one bare segment is given back as it is, with no scope asked.
+    #[inline]
+    pub fn search_for_level(&self, path: &Path, scope: &Path) -> Result<FoundLevel, Error> {
+        let t = self.words();
+        given(
+            FoundLevel { path: Path::EMPTY, asked: 0 },
+            |found| &mut found.path,
+            |out, a| {
+                // SAFETY: as above.
+                unsafe { raw::klem_search_for_level(t.as_ptr(), t.len(), path.ptr(), PATH, scope.ptr(), PATH, out, PATH, a, RESULT) }
+            },
+            |found, [asked, _, _]| found.asked = asked as usize,
+        )
+    }
+}
+
+impl<M: AsMut<[u64]>> Table<M> {
+    /// Makes a fresh table in memory that is lent; 24 where it has not 1,153 words.
+    #[inline]
+    pub fn fresh_in(memory: M) -> Result<Table<M>, Error> {
+        let mut table = Table(memory);
+        table.reset()?;
+        Ok(table)
+    }
+
+    /// The words, for whoever saves and restores them. Whatever is written here, the next call tests it.
+    #[inline]
+    pub fn words_mut(&mut self) -> &mut [u64] {
+        self.0.as_mut()
+    }
+
+    /// Makes the table fresh again: the root, and nothing else. 24 where it has not 1,153 words.
+    #[inline]
+    pub fn reset(&mut self) -> Result<(), Error> {
+        let t = self.words_mut();
+        let mut a = Answer::new();
+        // SAFETY: both pointers come with the lengths of what they point to, and both may be written: one is lent as `&mut`, the
+        // other is this call's own.
+        let n = unsafe { raw::klem_new(t.as_mut_ptr(), t.len(), a.ptr(), RESULT) };
+        a.read(n).map(|_| ())
+    }
+
+    /// Adds a level at an absolute path; `\`, and a level that is there, are left as they are. 11, 10, 15, 18.
+    #[inline]
+    pub fn add_level(&mut self, path: &Path, typ: LevelType) -> Result<(), Error> {
+        let t = self.words_mut();
+        let mut a = Answer::new();
+        // SAFETY: as above; the path is only read.
+        let n = unsafe { raw::klem_add_level(t.as_mut_ptr(), t.len(), path.ptr(), PATH, typ as u64, a.ptr(), RESULT) };
+        a.read(n).map(|_| ())
+    }
+
+    /// Removes a level with everything below it; objects stay readable by their handles. 11, 10, 14, 15.
+    #[inline]
+    pub fn remove_level(&mut self, path: &Path) -> Result<(), Error> {
+        let t = self.words_mut();
+        let mut a = Answer::new();
+        // SAFETY: as above.
+        let n = unsafe { raw::klem_remove_level(t.as_mut_ptr(), t.len(), path.ptr(), PATH, a.ptr(), RESULT) };
+        a.read(n).map(|_| ())
+    }
+
+    /// Adds a value under an absolute path, and gives its handle. 11, 10, 13, 15, 17, 19, 20.
+    #[inline]
+    pub fn add_value(&mut self, path: &Path, value: u64) -> Result<Handle, Error> {
+        let t = self.words_mut();
+        let mut a = Answer::new();
+        // SAFETY: as above.
+        let n = unsafe { raw::klem_add_value(t.as_mut_ptr(), t.len(), path.ptr(), PATH, value, a.ptr(), RESULT) };
+        let [handle, _, _] = a.read(n)?;
+        Ok(Handle(handle as u32))
+    }
+
+    /// Adds a value under a path as seen from a scope, and gives its handle.
+    #[inline]
+    pub fn add_value_at_resolved_path(&mut self, path: &Path, scope: &Path, value: u64) -> Result<Handle, Error> {
+        let t = self.words_mut();
+        let mut a = Answer::new();
+        // SAFETY: as above.
+        let n = unsafe { raw::klem_add_value_at_resolved_path(t.as_mut_ptr(), t.len(), path.ptr(), PATH, scope.ptr(), PATH, value, a.ptr(), RESULT) };
+        let [handle, _, _] = a.read(n)?;
+        Ok(Handle(handle as u32))
+    }
+
+    /// Binds a path to what a target is bound to, both as seen from a scope, and gives that handle.
+    #[inline]
+    pub fn add_alias_at_resolved_path(&mut self, path: &Path, scope: &Path, target: &Path) -> Result<Handle, Error> {
+        let t = self.words_mut();
+        let mut a = Answer::new();
+        // SAFETY: as above.
+        let n = unsafe {
+            raw::klem_add_alias_at_resolved_path(t.as_mut_ptr(), t.len(), path.ptr(), PATH, scope.ptr(), PATH, target.ptr(), PATH, a.ptr(), RESULT)
+        };
+        let [handle, _, _] = a.read(n)?;
+        Ok(Handle(handle as u32))
+    }
+
+    /// Sets the object of a handle; 21.
+    #[inline]
+    pub fn set(&mut self, handle: Handle, value: u64) -> Result<(), Error> {
+        let t = self.words_mut();
+        let mut a = Answer::new();
+        // SAFETY: as above.
+        let n = unsafe { raw::klem_set(t.as_mut_ptr(), t.len(), handle.0, value, a.ptr(), RESULT) };
+        a.read(n).map(|_| ())
+    }
+
+    /// Sets the object that an absolute path is bound to, exactly.
+    #[inline]
+    pub fn set_by_path(&mut self, path: &Path, value: u64) -> Result<(), Error> {
+        let t = self.words_mut();
+        let mut a = Answer::new();
+        // SAFETY: as above.
+        let n = unsafe { raw::klem_set_by_path(t.as_mut_ptr(), t.len(), path.ptr(), PATH, value, a.ptr(), RESULT) };
+        a.read(n).map(|_| ())
+    }
+}
