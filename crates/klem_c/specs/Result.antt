@@ -4,8 +4,8 @@ use mathlib.Core.Bool.{Bool}
 use mathlib.Core.List.{List, [], _∷_, _++_}
 use lib.Dec.{eqb}
 use lib.ListN.{length, getD, replicate}
-use Rattle.pkg_length.specs.Refusal.{Answer, gives, refuses, pick}
-use Rattle.klem_c.specs.declared.told.Told.{Told}
+use Rattle.pkg_length.specs.Refusal.{Answer, gives, refuses, andThen, pick}
+use Rattle.klem_c.specs.declared.reply.Reply.{Reply}
 
 -- KLEM_BAD_SLICE: a slice whose length is fixed has another
 abbrev pub badSlice : ℕ
@@ -24,6 +24,20 @@ abbrev pub resultOf : Answer (List ℕ) → List ℕ
 resultOf (gives vs) = filled (0 ∷ 0 ∷ vs)
 resultOf (refuses n p) = filled (n ∷ p ∷ [])
 
+-- an answer's value as words
+abbrev pub valued : {A : Type 0} → (A → List ℕ) → Answer A → Answer (List ℕ)
+valued f a = andThen a (λ v. gives (f v))
+
+abbrev pub nothing : {A : Type 0} → A → List ℕ
+nothing v = []
+
+abbrev pub one : ℕ → List ℕ
+one n = n ∷ []
+
+-- 1 where it is so, else 0
+abbrev pub flag : Bool → ℕ
+flag b = pick b 1 0
+
 -- a slice has the length that is fixed for it
 abbrev pub sized : ℕ → List ℕ → Bool
 sized n xs = eqb (length xs) n
@@ -41,9 +55,9 @@ leaves fit result lent words new =
     (record { number = badSlice; result = result; lent = lent })
 
 -- a call that is lent nothing but its result
-abbrev pub answers : List ℕ → Answer (List ℕ) → After
-answers result a = leaves (sized resultWords result) result [] (resultOf a) []
+abbrev pub answers : Bool → List ℕ → Answer (List ℕ) → After
+answers fit result a = leaves fit result [] (resultOf a) []
 
 -- what the code is about to write
-abbrev pub wordsOf : Told → List ℕ
+abbrev pub wordsOf : Reply → List ℕ
 wordsOf t = filled (t .number ∷ t .place ∷ t .first ∷ t .second ∷ t .third ∷ [])

@@ -1,11 +1,8 @@
-use mathlib.Core.Path.{sym, _∙_, ap}
+use mathlib.Core.Path.{refl, sym, _∙_}
 use borrow.Author.Tests.{eqb-true}
-use Rattle.pkg_length.specs.Refusal.{Answer, andThen}
-use Rattle.pkg_length.specs.Pkg.{Pkg}
 use Rattle.table.specs.Memory.{left}
-use Rattle.klem_c.specs.Lengths.{pkgWords}
-use Rattle.klem_c.specs.Result.{resultOf}
-use Rattle.klem_c.proofs.Results.{tells, keeps}
+use Rattle.klem_c.specs.Lengths.{pkgWords, klemPkgLength}
+use Rattle.klem_c.proofs.Results.{answered}
 use borrow.Author.Needs.{needs}
 use native.Mathlib.Omega.{arith}
 use borrow.Author.Needs.{needs}
@@ -13,9 +10,9 @@ use Rattle.klem_c.proofs.lengths.klem_pkg_length.Statement.{statement}
 use Rattle.klem_c.proofs.lengths.klem_pkg_length.Tie as tie
 use Rattle.klem_c.proofs.lengths.klem_pkg_length.Reads as reads
 use Rattle.klem_c.proofs.lengths.klem_pkg_length.Lts as lts
-use Rattle.klem_c.proofs.told.fit.Reads as fit-reads
-use Rattle.klem_c.proofs.told.pkg.Reads as pkg-reads
-use Rattle.klem_c.proofs.told.tell.Reads as tell-reads
+use Rattle.klem_c.proofs.reply.pkg.Reads as pkg-reads
+use Rattle.klem_c.proofs.reply.tell.Reads as tell-reads
+use Rattle.klem_c.proofs.slices.fit.Reads as fit-reads
 use Rattle.pkg_length.proofs.pkg_length.Reads as pkg-length-reads
 
 fit-requires : tie.Need-fit-requires
@@ -35,10 +32,12 @@ same-length : tie.Need-same-length
 same-length c = search needs
 
 returns : tie.Need-returns
+unfolding klemPkgLength
 returns c =
-    tells _ _ _ _ (sym (c .before .before .before .before .before .before .before .fit .ensures) ∙ c .before .before .before .before .before .before .if1 .taken) (c .before .before .tell .ensures) (c .before .before .before .pkg .ensures ∙ ap (λ (a : Answer Pkg). resultOf (andThen a pkgWords)) (c .before .before .before .before .pkg-length .ensures))
+    answered _ _ _ _ (sym (c .before .before .before .before .before .before .before .fit .ensures) ∙ c .before .before .before .before .before .before .if1 .taken) (c .before .before .tell .ensures) (pkgWords) (c .before .before .before .pkg .ensures) (c .before .before .before .before .pkg-length .ensures) refl
 
 returns-2 : tie.Need-returns-2
+unfolding klemPkgLength
 returns-2 c = rw (sym (c .before .fit .ensures) ∙ c .if1 .left)
 
 pub klem-pkg-length-spec : {M : Type 1} → statement M

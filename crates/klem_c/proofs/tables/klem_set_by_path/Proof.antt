@@ -1,0 +1,62 @@
+use mathlib.Core.Path.{sym, _∙_}
+use Rattle.table.specs.Memory.{left}
+use Rattle.klem_c.specs.Result.{nothing}
+use Rattle.klem_c.specs.Tables.{klemSetByPath}
+use Rattle.klem_c.proofs.Results.{one-fits, edited}
+use borrow.Author.Needs.{needs}
+use native.Mathlib.Omega.{arith}
+use borrow.Author.Needs.{needs}
+use Rattle.klem_c.proofs.tables.klem_set_by_path.Statement.{statement}
+use Rattle.klem_c.proofs.tables.klem_set_by_path.Tie as tie
+use Rattle.klem_c.proofs.tables.klem_set_by_path.Reads as reads
+use Rattle.klem_c.proofs.tables.klem_set_by_path.Lts as lts
+use Rattle.klem_c.proofs.reply.edit.Reads as edit-reads
+use Rattle.klem_c.proofs.reply.tell.Reads as tell-reads
+use Rattle.klem_c.proofs.slices.fit_one.Reads as fit-one-reads
+use Rattle.klem_c.proofs.slices.path_in.Reads as path-in-reads
+use Rattle.namespace.proofs.set_by_path.Reads as set-by-path-reads
+
+fit-one-requires : tie.Need-fit-one-requires
+fit-one-requires c κs = search needs
+
+path-in-requires : tie.Need-path-in-requires
+path-in-requires c κs = c .before .before .fit-one .ensures .1 (c .before .if1 .taken) .1
+
+set-by-path-requires : tie.Need-set-by-path-requires
+set-by-path-requires c κs = search needs
+
+edit-requires : tie.Need-edit-requires
+edit-requires c κs = search needs
+
+tell-requires : tie.Need-tell-requires
+tell-requires c κs =
+    c .before .before .before .before .before .before .before .before .fit-one .ensures .1 (c .before .before .before .before .before .before .before .if1 .taken) .0
+
+same-length : tie.Need-same-length
+same-length c = search needs
+
+same-length-2 : tie.Need-same-length-2
+same-length-2 c = search needs
+
+returns : tie.Need-returns
+unfolding klemSetByPath
+returns c =
+    edited _ _ _ _ (sym (c .before .before .before .before .before .before .before .before .before .before .before .fit-one .ensures .0) ∙ c .before .before .before .before .before .before .before .before .before .before .if1 .taken) (c .before .before .tell .ensures) nothing (c .before .before .before .edit .ensures) (rw (c .before .before .before .before .before .before .before .before .path-in .ensures) at (c .before .before .before .before .before .before .before .set-by-path .ensures))
+
+returns-2 : tie.Need-returns-2
+unfolding klemSetByPath
+returns-2 c = rw (sym (c .before .fit-one .ensures .0) ∙ c .if1 .left)
+
+pub klem-set-by-path-spec : {M : Type 1} → statement M
+klem-set-by-path-spec =
+    tie.close
+    (tie.spec
+    fit-one-requires
+    path-in-requires
+    set-by-path-requires
+    edit-requires
+    tell-requires
+    same-length
+    same-length-2
+    returns
+    returns-2)
