@@ -3,10 +3,12 @@ ghost use mathlib.Core.Path.{_≡_};
 ghost use mathlib.Core.List.{[]};
 ghost use Rattle.klem_c.specs.Frames.{klemFrameNew, klemFrameGet, klemFrameWith};
 ghost use Rattle.klem_c.specs.Blocks.{KlemCheck, KlemRun};
+ghost use Rattle.klem_c.specs.Inside.{Began};
 use crate::frames;
 use crate::reply;
 use crate::slices;
 use statement::CheckAnswer;
+use statement::End;
 use statement::frame::Frame;
 
 #[no_mangle]
@@ -19,25 +21,35 @@ pub extern "C" fn klem_check(block: &[u8], result: &mut [u64]) -> u64
     slices::BAD_SLICE
 }
 
-// A block that the check refuses leaves the frame's words as they are, so it is asked first.
+// Whether the check let the block run, which a refusal alone leaves open: then it is asked again.
+fn began(block: &[u8], end: End) -> bool
+    ensures { λ r. ⌜ Began (now (block .entry)) end r ⌝ }
+{
+    match end {
+        End::Finished => true,
+        End::Returned(_) => true,
+        End::BreakOut => true,
+        End::ContinueOut => true,
+        End::Refused(_) => match statement::check(block) {
+            CheckAnswer::Accepted => true,
+            CheckAnswer::Refused(_) => false,
+        },
+    }
+}
+
 #[no_mangle]
 pub extern "C" fn klem_run(block: &[u8], frame: &mut [u64], budget: u64, result: &mut [u64]) -> u64
     ensures { λ r. ⌜ KlemRun (now (block .entry)) (now (frame .entry)) budget (now (result .entry)) (record { number = r; result = now (result .exit); lent = now (frame .exit) }) ⌝ }
 {
     if slices::fit_one(result.len(), frame.len(), slices::FRAME) {
-        let v = statement::check(block);
-        match v {
-            CheckAnswer::Refused(e) => {
-                return reply::tell(result, reply::refusal(e));
-            }
-            CheckAnswer::Accepted => {
-                let a = statement::run(block, frames::frame_in(frame), budget);
-                let end = a.end;
-                let left = a.frame;
-                frames::put_frame(frame, left);
-                return reply::tell(result, reply::end(end, a.units));
-            }
+        let a = statement::run(block, frames::frame_in(frame), budget);
+        let end = a.end;
+        if began(block, end) {
+            let left = a.frame;
+            frames::put_frame(frame, left);
+            return reply::tell(result, reply::end(end, a.units));
         }
+        return reply::tell(result, reply::end(end, a.units));
     }
     slices::BAD_SLICE
 }
