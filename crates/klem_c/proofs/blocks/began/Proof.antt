@@ -1,14 +1,10 @@
+-- A run that ended with no refusal began. After a refusal the check says whether the grammar derives the block.
 use mathlib.Core.Path.{ap}
+use borrow.Author.Needs.{needs}
 use Rattle.statement.specs.Promise.{endSaid}
 use Rattle.klem_c.proofs.Runs.{began-ended, began-derived, began-not}
-use borrow.Author.Needs.{needs}
-use native.Mathlib.Omega.{arith}
-use borrow.Author.Needs.{needs}
 use Rattle.klem_c.proofs.blocks.began.Statement.{statement}
 use Rattle.klem_c.proofs.blocks.began.Tie as tie
-use Rattle.klem_c.proofs.blocks.began.Reads as reads
-use Rattle.klem_c.proofs.blocks.began.Lts as lts
-use Rattle.statement.proofs.check.Reads as check-reads
 
 enum-told : tie.Need-enum-told
 enum-told c = search needs

@@ -1,19 +1,12 @@
-use Rattle.klem_c.proofs.Runs.{check-left}
+-- What is told is the verdict of the layer below, which accepts exactly what the grammar derives.
+-- Where the result does not fit nothing is written.
+use Rattle.table.specs.Memory.{left}
 use mathlib.Core.Path.{sym, _∙_}
 use borrow.Author.Tests.{eqb-true}
-use Rattle.table.specs.Memory.{left}
-use Rattle.klem_c.proofs.Runs.{check-unfit}
 use borrow.Author.Needs.{needs}
-use native.Mathlib.Omega.{arith}
-use borrow.Author.Needs.{needs}
+use Rattle.klem_c.proofs.Runs.{check-left, check-unfit}
 use Rattle.klem_c.proofs.blocks.klem_check.Statement.{statement}
 use Rattle.klem_c.proofs.blocks.klem_check.Tie as tie
-use Rattle.klem_c.proofs.blocks.klem_check.Reads as reads
-use Rattle.klem_c.proofs.blocks.klem_check.Lts as lts
-use Rattle.klem_c.proofs.reply.tell.Reads as tell-reads
-use Rattle.klem_c.proofs.reply.verdict.Reads as verdict-reads
-use Rattle.klem_c.proofs.slices.fit.Reads as fit-reads
-use Rattle.statement.proofs.check.Reads as check-reads
 
 fit-requires : tie.Need-fit-requires
 fit-requires c κs = search needs
@@ -33,7 +26,13 @@ same-length c = search needs
 
 returns : tie.Need-returns
 returns c =
-    check-left _ _ _ _ (c .before .before .before .before .check .ensures) (sym (c .before .before .before .before .before .before .before .fit .ensures) ∙ c .before .before .before .before .before .before .if1 .taken) (c .before .before .tell .ensures) (c .before .before .before .verdict .ensures)
+    let at-tell = c .before .before in
+    let at-verdict = at-tell .before in
+    let at-check = at-verdict .before in
+    let at-if1 = at-check .before .before in
+    let at-fit = at-if1 .before in
+    check-left _ _ _ _ (at-check .check .ensures) (sym (at-fit .fit .ensures) ∙ at-if1 .if1 .taken) (at-tell .tell .ensures)
+    (at-verdict .verdict .ensures)
 
 returns-2 : tie.Need-returns-2
 returns-2 c = check-unfit _ _ (sym (c .before .fit .ensures) ∙ c .if1 .left)

@@ -1,20 +1,13 @@
-use mathlib.Core.Path.{refl, sym, _∙_}
+-- What the layer below says is told in words (`answered`).
+-- Where the slices do not fit nothing is written.
 use Rattle.table.specs.Memory.{left}
+use mathlib.Core.Path.{refl, sym, _∙_}
+use borrow.Author.Needs.{needs}
 use Rattle.klem_c.specs.Result.{one}
 use Rattle.klem_c.specs.Frames.{klemFrameGet}
-use Rattle.klem_c.proofs.Results.{one-fits, answered}
-use borrow.Author.Needs.{needs}
-use native.Mathlib.Omega.{arith}
-use borrow.Author.Needs.{needs}
+use Rattle.klem_c.proofs.Results.{answered}
 use Rattle.klem_c.proofs.blocks.klem_frame_get.Statement.{statement}
 use Rattle.klem_c.proofs.blocks.klem_frame_get.Tie as tie
-use Rattle.klem_c.proofs.blocks.klem_frame_get.Reads as reads
-use Rattle.klem_c.proofs.blocks.klem_frame_get.Lts as lts
-use Rattle.klem_c.proofs.frames.frame_in.Reads as frame-in-reads
-use Rattle.klem_c.proofs.reply.cell.Reads as cell-reads
-use Rattle.klem_c.proofs.reply.tell.Reads as tell-reads
-use Rattle.klem_c.proofs.slices.fit_one.Reads as fit-one-reads
-use Rattle.statement.proofs.frame.Frame.get.Reads as get-reads
 
 fit-one-requires : tie.Need-fit-one-requires
 fit-one-requires c κs = search needs
@@ -38,7 +31,14 @@ same-length c = search needs
 returns : tie.Need-returns
 unfolding klemFrameGet
 returns c =
-    answered _ _ _ _ (sym (c .before .before .before .before .before .before .before .before .fit-one .ensures .0) ∙ c .before .before .before .before .before .before .before .if1 .taken) (c .before .before .tell .ensures) (one) (c .before .before .before .cell .ensures) (rw (c .before .before .before .before .before .before .frame-in .ensures) at (c .before .before .before .before .get .ensures)) refl
+    let at-tell = c .before .before in
+    let at-cell = at-tell .before in
+    let at-get = at-cell .before in
+    let at-frame-in = at-get .before .before in
+    let at-if1 = at-frame-in .before in
+    let at-fit-one = at-if1 .before in
+    answered _ _ _ _ (sym (at-fit-one .fit-one .ensures .0) ∙ at-if1 .if1 .taken) (at-tell .tell .ensures) (one) (at-cell .cell .ensures)
+    (rw (at-frame-in .frame-in .ensures) at (at-get .get .ensures)) refl
 
 returns-2 : tie.Need-returns-2
 unfolding klemFrameGet

@@ -1,21 +1,14 @@
-use mathlib.Core.Path.{sym, _∙_, ap}
+-- The words are those of the frame that the layer below makes, and the result says that it was done.
+-- Where the slices do not fit nothing is written.
 use Rattle.table.specs.Memory.{left}
+use Rattle.klem_c.proofs.Copies.{put-frame}
+use mathlib.Core.Path.{sym, _∙_, ap}
+use borrow.Author.Needs.{needs}
 use Rattle.klem_c.specs.Result.{wordsOf}
 use Rattle.klem_c.specs.Frames.{frameWords, klemFrameNew}
-use Rattle.klem_c.proofs.Copies.{put-frame}
 use Rattle.klem_c.proofs.Results.{tells}
-use borrow.Author.Needs.{needs}
-use native.Mathlib.Omega.{arith}
-use borrow.Author.Needs.{needs}
 use Rattle.klem_c.proofs.blocks.klem_frame_new.Statement.{statement}
 use Rattle.klem_c.proofs.blocks.klem_frame_new.Tie as tie
-use Rattle.klem_c.proofs.blocks.klem_frame_new.Reads as reads
-use Rattle.klem_c.proofs.blocks.klem_frame_new.Lts as lts
-use Rattle.klem_c.proofs.frames.put_frame.Reads as put-frame-reads
-use Rattle.klem_c.proofs.reply.given.Reads as given-reads
-use Rattle.klem_c.proofs.reply.tell.Reads as tell-reads
-use Rattle.klem_c.proofs.slices.fit_one.Reads as fit-one-reads
-use Rattle.statement.proofs.frame.Frame.new.Reads as new-reads
 
 fit-one-requires : tie.Need-fit-one-requires
 fit-one-requires c κs = search needs
@@ -31,7 +24,9 @@ given-requires c κs = search needs
 
 tell-requires : tie.Need-tell-requires
 tell-requires c κs =
-    c .before .before .before .before .before .before .before .before .fit-one .ensures .1 (c .before .before .before .before .before .before .before .if1 .taken) .0
+    let at-if1 = c .before .before .before .before .before .before .before in
+    let at-fit-one = at-if1 .before in
+    at-fit-one .fit-one .ensures .1 (at-if1 .if1 .taken) .0
 
 same-length : tie.Need-same-length
 same-length c = search needs
@@ -42,7 +37,14 @@ same-length-2 c = search needs
 returns : tie.Need-returns
 unfolding klemFrameNew
 returns c =
-    tells _ _ _ _ (sym (c .before .before .before .before .before .before .before .before .before .before .before .fit-one .ensures .0) ∙ c .before .before .before .before .before .before .before .before .before .before .if1 .taken) (c .before .before .tell .ensures) (ap wordsOf (c .before .before .before .given .ensures)) (c .before .before .before .before .before .before .before .put-frame .ensures ∙ ap frameWords (c .before .before .before .before .before .before .before .before .new .ensures))
+    let at-tell = c .before .before in
+    let at-given = at-tell .before in
+    let at-put-frame = at-given .before .before .before .before in
+    let at-new = at-put-frame .before in
+    let at-if1 = at-new .before .before in
+    let at-fit-one = at-if1 .before in
+    tells _ _ _ _ (sym (at-fit-one .fit-one .ensures .0) ∙ at-if1 .if1 .taken) (at-tell .tell .ensures) (ap wordsOf (at-given .given .ensures))
+    (at-put-frame .put-frame .ensures ∙ ap frameWords (at-new .new .ensures))
 
 returns-2 : tie.Need-returns-2
 unfolding klemFrameNew

@@ -1,21 +1,12 @@
-use mathlib.Core.Path.{sym, _∙_}
+-- Where the run began, its words and its frame are the meaning's; where the check refused the block, the frame stays.
+-- Where the slices do not fit nothing is written.
 use Rattle.table.specs.Memory.{left}
-use Rattle.klem_c.proofs.Runs.{run-unfit, run-kept, run-left}
 use Rattle.klem_c.proofs.Copies.{put-frame}
+use mathlib.Core.Path.{sym, _∙_}
 use borrow.Author.Needs.{needs}
-use native.Mathlib.Omega.{arith}
-use borrow.Author.Needs.{needs}
+use Rattle.klem_c.proofs.Runs.{run-unfit, run-kept, run-left}
 use Rattle.klem_c.proofs.blocks.klem_run.Statement.{statement}
 use Rattle.klem_c.proofs.blocks.klem_run.Tie as tie
-use Rattle.klem_c.proofs.blocks.klem_run.Reads as reads
-use Rattle.klem_c.proofs.blocks.klem_run.Lts as lts
-use Rattle.klem_c.proofs.blocks.began.Reads as began-reads
-use Rattle.klem_c.proofs.frames.frame_in.Reads as frame-in-reads
-use Rattle.klem_c.proofs.frames.put_frame.Reads as put-frame-reads
-use Rattle.klem_c.proofs.reply.end.Reads as end-reads
-use Rattle.klem_c.proofs.reply.tell.Reads as tell-reads
-use Rattle.klem_c.proofs.slices.fit_one.Reads as fit-one-reads
-use Rattle.statement.proofs.run.Reads as run-reads
 
 fit-one-requires : tie.Need-fit-one-requires
 fit-one-requires c κs = search needs
@@ -31,14 +22,18 @@ began-requires c κs = search needs
 
 put-frame-requires : tie.Need-put-frame-requires
 put-frame-requires c κs =
-    c .before .before .before .before .before .before .before .before .fit-one .ensures .1 (c .before .before .before .before .before .before .before .if1 .taken) .1
+    let at-if1 = c .before .before .before .before .before .before .before in
+    let at-fit-one = at-if1 .before in
+    at-fit-one .fit-one .ensures .1 (at-if1 .if1 .taken) .1
 
 end-requires : tie.Need-end-requires
 end-requires c κs = search needs
 
 tell-requires : tie.Need-tell-requires
 tell-requires c κs =
-    c .before .before .before .before .before .before .before .before .before .before .before .before .before .fit-one .ensures .1 (c .before .before .before .before .before .before .before .before .before .before .before .before .if1 .taken) .0
+    let at-if1 = c .before .before .before .before .before .before .before .before .before .before .before .before in
+    let at-fit-one = at-if1 .before in
+    at-fit-one .fit-one .ensures .1 (at-if1 .if1 .taken) .0
 
 same-length : tie.Need-same-length
 same-length c = search needs
@@ -48,15 +43,27 @@ same-length-2 c = search needs
 
 returns : tie.Need-returns
 returns c =
-    run-left _ _ _ _ _ (c .before .before .before .before .before .before .before .before .before .before .before .before .run .result) (rw (c .before .before .before .before .before .before .before .before .before .before .before .before .before .frame-in .ensures) at (c .before .before .before .before .before .before .before .before .before .before .before .before .run .ensures)) (sym (c .before .before .before .before .before .before .before .before .before .before .before .before .before .before .before .before .fit-one .ensures .0) ∙ c .before .before .before .before .before .before .before .before .before .before .before .before .before .before .before .if1 .taken)
-    (c .before .before .tell .ensures) (c .before .before .before .end .ensures) (c .before .before .before .before .before .before .before .before .before .before .before .began .ensures) (c .before .before .before .before .before .before .before .before .before .before .if2 .taken) (c .before .before .before .before .before .before .before .put-frame .ensures)
+    let at-tell = c .before .before in
+    let at-end = at-tell .before in
+    let at-put-frame = at-end .before .before .before .before in
+    let at-if2 = at-put-frame .before .before .before in
+    let at-began = at-if2 .before in
+    let at-run = at-began .before in
+    let at-frame-in = at-run .before in
+    let at-if1 = at-frame-in .before .before in
+    let at-fit-one = at-if1 .before in
+    run-left _ _ _ _ _ (at-run .run .result) (rw (at-frame-in .frame-in .ensures) at (at-run .run .ensures))
+    (sym (at-fit-one .fit-one .ensures .0) ∙ at-if1 .if1 .taken) (at-tell .tell .ensures) (at-end .end .ensures) (at-began .began .ensures)
+    (at-if2 .if2 .taken) (at-put-frame .put-frame .ensures)
 
 end-requires-2 : tie.Need-end-requires-2
 end-requires-2 c κs = search needs
 
 tell-requires-2 : tie.Need-tell-requires-2
 tell-requires-2 c κs =
-    c .before .before .before .before .before .before .before .before .fit-one .ensures .1 (c .before .before .before .before .before .before .before .if1 .taken) .0
+    let at-if1 = c .before .before .before .before .before .before .before in
+    let at-fit-one = at-if1 .before in
+    at-fit-one .fit-one .ensures .1 (at-if1 .if1 .taken) .0
 
 same-length-3 : tie.Need-same-length-3
 same-length-3 c = search needs
@@ -66,8 +73,17 @@ same-length-4 c = search needs
 
 returns-2 : tie.Need-returns-2
 returns-2 c =
-    run-kept _ _ _ _ _ (c .before .before .before .before .before .before .before .run .result) (rw (c .before .before .before .before .before .before .before .before .frame-in .ensures) at (c .before .before .before .before .before .before .before .run .ensures)) (sym (c .before .before .before .before .before .before .before .before .before .before .before .fit-one .ensures .0) ∙ c .before .before .before .before .before .before .before .before .before .before .if1 .taken)
-    (c .before .before .tell2 .ensures) (c .before .before .before .end2 .ensures) (c .before .before .before .before .before .before .began .ensures) (c .before .before .before .before .before .if2 .left)
+    let at-tell2 = c .before .before in
+    let at-end2 = at-tell2 .before in
+    let at-if2 = at-end2 .before .before in
+    let at-began = at-if2 .before in
+    let at-run = at-began .before in
+    let at-frame-in = at-run .before in
+    let at-if1 = at-frame-in .before .before in
+    let at-fit-one = at-if1 .before in
+    run-kept _ _ _ _ _ (at-run .run .result) (rw (at-frame-in .frame-in .ensures) at (at-run .run .ensures))
+    (sym (at-fit-one .fit-one .ensures .0) ∙ at-if1 .if1 .taken) (at-tell2 .tell2 .ensures) (at-end2 .end2 .ensures) (at-began .began .ensures)
+    (at-if2 .if2 .left)
 
 returns-3 : tie.Need-returns-3
 returns-3 c = run-unfit _ _ _ _ (sym (c .before .fit-one .ensures .0) ∙ c .if1 .left)

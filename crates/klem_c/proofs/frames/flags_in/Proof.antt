@@ -1,19 +1,16 @@
-use mathlib.Core.Path.{_∙_}
-use Rattle.klem_c.proofs.Copies.{flagged, flagged-all}
-use Rattle.statement.specs.Grammar.{cells}
-use mathlib.Core.Path.{_≡_, refl}
+-- What is behind the loop is the flags of the words, and what is before it is as it was (`flagged`).
+-- The measure is the cells that are left.
+use mathlib.Core.Path.{_∙_, _≡_, refl}
 use mathlib.Core.List.{_++_}
 use mathlib.Core.Bool.{false}
 use Prim.Native.Nat.{_-_, _≤_}
-use lib.ListN.{take, drop, replicate}
-use Rattle.klem_c.specs.Frames.{flagsAt}
-use lib.ListN.{set}
+use lib.ListN.{take, drop, replicate, set}
 use borrow.Author.Needs.{needs}
-use native.Mathlib.Omega.{arith}
+use Rattle.statement.specs.Grammar.{cells}
+use Rattle.klem_c.specs.Frames.{flagsAt}
+use Rattle.klem_c.proofs.Copies.{flagged, flagged-all}
 use Rattle.klem_c.proofs.frames.flags_in.Statement.{statement}
 use Rattle.klem_c.proofs.frames.flags_in.Tie as tie
-use Rattle.klem_c.proofs.frames.flags_in.Reads as reads
-use Rattle.klem_c.proofs.frames.flags_in.Lts as lts
 
 abbrev Inv-loop : tie.InvT-loop
 Inv-loop words set₀ i₀ set i = (i ≤ cells) × (set ≡ take i (flagsAt words) ++ drop i (replicate cells false))
@@ -41,7 +38,9 @@ loop-less c = search needs
 
 loop-again : tie.Need-loop-again Inv-loop μ-loop
 loop-again c =
-    (search needs, rw (c .before .before .loop .inv .1) (flagged (c .before .before .before .args .words .now) (c .before .before .before .pre) (c .before .before .loop .i) (search needs)))
+    let at-loop = c .before .before in
+    let at-args = at-loop .before in
+    (search needs, rw (at-loop .loop .inv .1) (flagged (at-args .args .words .now) (at-args .pre) (at-loop .loop .i) (search needs)))
 
 returns : tie.Need-returns Inv-loop μ-loop
 returns c =

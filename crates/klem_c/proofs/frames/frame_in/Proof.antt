@@ -1,16 +1,11 @@
-use Rattle.statement.specs.Grammar.{cells}
+-- The flags are those of the first words, and the numbers are a copy of the others.
 use mathlib.Core.Path.{_∙_}
 use lib.ListN.{set}
+use borrow.Author.Needs.{needs}
+use Rattle.statement.specs.Grammar.{cells}
 use Rattle.klem_c.proofs.Copies.{tail-of}
-use borrow.Author.Needs.{needs}
-use native.Mathlib.Omega.{arith}
-use borrow.Author.Needs.{needs}
 use Rattle.klem_c.proofs.frames.frame_in.Statement.{statement}
 use Rattle.klem_c.proofs.frames.frame_in.Tie as tie
-use Rattle.klem_c.proofs.frames.frame_in.Reads as reads
-use Rattle.klem_c.proofs.frames.frame_in.Lts as lts
-use Rattle.klem_c.proofs.frames.copy.Reads as copy-reads
-use Rattle.klem_c.proofs.frames.flags_in.Reads as flags-in-reads
 
 slice-aggregate-copy : tie.Need-slice-aggregate-copy
 slice-aggregate-copy c = search needs
@@ -32,7 +27,9 @@ flags-in-requires c κs = search needs
 
 returns : tie.Need-returns
 returns c =
-    λ i. record { set = (c .flags-in .ensures) i; val = (c .before .before .copy .ensures ∙ tail-of cells (c .before .before .before .before .before .before .args .words .now)) i }
+    let at-copy = c .before .before in
+    let at-args = at-copy .before .before .before .before in
+    λ i. record { set = (c .flags-in .ensures) i; val = (at-copy .copy .ensures ∙ tail-of cells (at-args .args .words .now)) i }
 
 pub frame-in-spec : {M : Type 1} → statement M
 frame-in-spec =

@@ -1,20 +1,17 @@
-use mathlib.Core.Path.{_∙_}
-use lib.ListN.{length-set}
-use Rattle.klem_c.proofs.Copies.{unflagged, unflagged-all}
-use Rattle.statement.specs.Grammar.{cells}
-use mathlib.Core.Path.{_≡_, refl}
+-- What is behind the loop is the flags as numbers, and what is before it is as it was (`unflagged`).
+-- The measure is the cells that are left.
+use mathlib.Core.Path.{_∙_, _≡_, refl}
 use mathlib.Core.List.{_++_, map}
 use Prim.Native.Nat.{_-_, _≤_}
-use lib.ListN.{length, take, drop}
+use native.Mathlib.Omega.{arith}
+use lib.ListN.{length-set, length, take, drop, set}
+use borrow.Author.Needs.{needs}
+use Rattle.statement.specs.Grammar.{cells}
 use Rattle.klem_c.specs.Result.{flag}
 use Rattle.klem_c.specs.Frames.{frameSize}
-use lib.ListN.{set}
-use borrow.Author.Needs.{needs}
-use native.Mathlib.Omega.{arith}
+use Rattle.klem_c.proofs.Copies.{unflagged, unflagged-all}
 use Rattle.klem_c.proofs.frames.put_flags.Statement.{statement}
 use Rattle.klem_c.proofs.frames.put_flags.Tie as tie
-use Rattle.klem_c.proofs.frames.put_flags.Reads as reads
-use Rattle.klem_c.proofs.frames.put_flags.Lts as lts
 
 abbrev Inv-loop : tie.InvT-loop
 Inv-loop words₀ set i₀ words i = (i ≤ cells) × (length words ≡ frameSize) × (words ≡ take i (map flag set) ++ drop i words₀)
@@ -45,16 +42,23 @@ loop-less c = search needs
 
 loop-again : tie.Need-loop-again Inv-loop μ-loop
 loop-again c =
-    let len : length (c .before .before .args .t2) ≡ cells = search needs in
-    (search needs, simp length-set (c .before .loop .inv .1), rw (c .before .loop .inv .2) (unflagged (c .before .before .args .words .now) (c .before .before .args .t2) (c .before .before .pre) len (c .before .loop .i) (search needs)))
+    let at-loop = c .before in
+    let at-args = at-loop .before in
+    let len : length (at-args .args .t2) ≡ cells = search needs in (
+      search needs,
+      simp length-set (at-loop .loop .inv .1),
+      rw (at-loop .loop .inv .2) (unflagged (at-args .args .words .now) (at-args .args .t2) (at-args .pre) len (at-loop .loop .i) (search needs)),
+    )
 
 same-length : tie.Need-same-length Inv-loop μ-loop
 same-length c = search needs
 
 returns : tie.Need-returns Inv-loop μ-loop
 returns c =
-    let len : length (c .before .before .args .t2) ≡ cells = search needs in
-    c .before .loop .inv .2 ∙ unflagged-all (c .before .before .args .words .now) (c .before .before .args .t2) (c .before .before .pre) len (c .before .loop .i) (omega arith)
+    let at-loop = c .before in
+    let at-args = at-loop .before in
+    let len : length (at-args .args .t2) ≡ cells = search needs in at-loop .loop .inv .2 ∙ unflagged-all (at-args .args .words .now) (at-args .args .t2)
+    (at-args .pre) len (at-loop .loop .i) (omega arith)
 
 pub put-flags-spec : {M : Type 1} → statement M
 put-flags-spec =

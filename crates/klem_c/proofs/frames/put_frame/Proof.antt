@@ -1,16 +1,12 @@
-use Rattle.statement.specs.Grammar.{cells}
+-- The flags are written first, then the numbers behind them: the words are the two in a row (`put-frame`).
+use lib.ListN.{set}
 use mathlib.Core.Path.{_≡_}
-use lib.ListN.{length, set}
+use lib.ListN.{length}
+use borrow.Author.Needs.{needs}
+use Rattle.statement.specs.Grammar.{cells}
 use Rattle.klem_c.proofs.Copies.{put-frame}
-use borrow.Author.Needs.{needs}
-use native.Mathlib.Omega.{arith}
-use borrow.Author.Needs.{needs}
 use Rattle.klem_c.proofs.frames.put_frame.Statement.{statement}
 use Rattle.klem_c.proofs.frames.put_frame.Tie as tie
-use Rattle.klem_c.proofs.frames.put_frame.Reads as reads
-use Rattle.klem_c.proofs.frames.put_frame.Lts as lts
-use Rattle.klem_c.proofs.frames.copy.Reads as copy-reads
-use Rattle.klem_c.proofs.frames.put_flags.Reads as put-flags-reads
 
 put-flags-requires : tie.Need-put-flags-requires
 put-flags-requires c κs = search needs
@@ -33,7 +29,11 @@ same-length c = search needs
 returns : tie.Need-returns
 returns c =
     let l : length (c .before .before .before .before .before .before .before .before .before .before .before .before .before .args .t2 .set) ≡ cells = search needs in
-    put-frame (c .before .before .before .before .before .before .before .before .before .before .before .before .before .args .words .now) (c .before .before .before .before .before .before .before .before .before .put-flags .last .0) (c .before .before .copy .last .0) (c .before .before .before .before .before .before .before .before .before .before .before .before .before .args .t2) l (c .before .before .before .before .before .before .before .before .before .before .before .before .before .pre) (c .before .before .before .before .before .before .before .before .before .put-flags .ensures) (c .before .before .copy .ensures)
+    let at-copy = c .before .before in
+    let at-put-flags = at-copy .before .before .before .before .before .before .before in
+    let at-args = at-put-flags .before .before .before .before in
+    put-frame (at-args .args .words .now) (at-put-flags .put-flags .last .0) (at-copy .copy .last .0) (at-args .args .t2) l (at-args .pre)
+    (at-put-flags .put-flags .ensures) (at-copy .copy .ensures)
 
 pub put-frame-spec : {M : Type 1} → statement M
 put-frame-spec =

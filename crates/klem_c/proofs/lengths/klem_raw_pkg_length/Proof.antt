@@ -1,19 +1,13 @@
+-- What the layer below says is told in words (`answered`).
+-- Where the slices do not fit nothing is written.
+use Rattle.table.specs.Memory.{left}
 use mathlib.Core.Path.{refl, sym, _∙_}
 use borrow.Author.Tests.{eqb-true}
-use Rattle.table.specs.Memory.{left}
+use borrow.Author.Needs.{needs}
 use Rattle.klem_c.specs.Lengths.{rawWords, klemRawPkgLength}
 use Rattle.klem_c.proofs.Results.{answered}
-use borrow.Author.Needs.{needs}
-use native.Mathlib.Omega.{arith}
-use borrow.Author.Needs.{needs}
 use Rattle.klem_c.proofs.lengths.klem_raw_pkg_length.Statement.{statement}
 use Rattle.klem_c.proofs.lengths.klem_raw_pkg_length.Tie as tie
-use Rattle.klem_c.proofs.lengths.klem_raw_pkg_length.Reads as reads
-use Rattle.klem_c.proofs.lengths.klem_raw_pkg_length.Lts as lts
-use Rattle.klem_c.proofs.reply.raw.Reads as raw-reads
-use Rattle.klem_c.proofs.reply.tell.Reads as tell-reads
-use Rattle.klem_c.proofs.slices.fit.Reads as fit-reads
-use Rattle.pkg_length.proofs.raw_pkg_length.Reads as raw-pkg-length-reads
 
 fit-requires : tie.Need-fit-requires
 fit-requires c κs = search needs
@@ -34,7 +28,13 @@ same-length c = search needs
 returns : tie.Need-returns
 unfolding klemRawPkgLength
 returns c =
-    answered _ _ _ _ (sym (c .before .before .before .before .before .before .before .fit .ensures) ∙ c .before .before .before .before .before .before .if1 .taken) (c .before .before .tell .ensures) (rawWords) (c .before .before .before .raw .ensures) (c .before .before .before .before .raw-pkg-length .ensures) refl
+    let at-tell = c .before .before in
+    let at-raw = at-tell .before in
+    let at-raw-pkg-length = at-raw .before in
+    let at-if1 = at-raw-pkg-length .before .before in
+    let at-fit = at-if1 .before in
+    answered _ _ _ _ (sym (at-fit .fit .ensures) ∙ at-if1 .if1 .taken) (at-tell .tell .ensures) (rawWords) (at-raw .raw .ensures)
+    (at-raw-pkg-length .raw-pkg-length .ensures) refl
 
 returns-2 : tie.Need-returns-2
 unfolding klemRawPkgLength

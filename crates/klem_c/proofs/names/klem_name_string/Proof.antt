@@ -1,22 +1,16 @@
-use Rattle.name_object.specs.Component.{componentLimit}
-use Rattle.name_object.specs.Name.{nameString}
+-- The path that the layer below gives goes to `out` with its count in one byte, since it has at most 32 components; a refusal leaves `out` (`named`).
+-- Where the slices do not fit nothing is written.
+use Rattle.table.specs.Memory.{left}
 use mathlib.Core.Path.{_≡_, sym, _∙_}
 use lib.ListN.{length}
-use Rattle.table.specs.Memory.{left}
+use borrow.Author.Needs.{needs}
+use Rattle.name_object.specs.Component.{componentLimit}
+use Rattle.name_object.specs.Name.{nameString}
 use Rattle.klem_c.specs.Result.{one}
 use Rattle.klem_c.specs.Paths.{klemNameString}
 use Rattle.klem_c.proofs.Results.{name-numbered, count-small, named}
-use borrow.Author.Needs.{needs}
-use native.Mathlib.Omega.{arith}
-use borrow.Author.Needs.{needs}
 use Rattle.klem_c.proofs.names.klem_name_string.Statement.{statement}
 use Rattle.klem_c.proofs.names.klem_name_string.Tie as tie
-use Rattle.klem_c.proofs.names.klem_name_string.Reads as reads
-use Rattle.klem_c.proofs.names.klem_name_string.Lts as lts
-use Rattle.klem_c.proofs.reply.name.Reads as name-reads
-use Rattle.klem_c.proofs.reply.tell_path.Reads as tell-path-reads
-use Rattle.klem_c.proofs.slices.fit_one.Reads as fit-one-reads
-use Rattle.name_object.proofs.name_string.Reads as name-string-reads
 
 fit-one-requires : tie.Need-fit-one-requires
 fit-one-requires c κs = search needs
@@ -30,7 +24,14 @@ name-requires c κs = search needs
 tell-path-requires : tie.Need-tell-path-requires
 tell-path-requires c κs =
     let l : length (c .before .before .before .before .name-string .result .name .bytes) ≡ 128 = search needs in
-    (c .before .before .before .before .before .before .fit-one .ensures .1 (c .before .before .before .before .before .if1 .taken) .1, c .before .before .before .before .before .before .fit-one .ensures .1 (c .before .before .before .before .before .if1 .taken) .0, count-small _ (nameString componentLimit (c .before .before .before .before .before .before .before .before .before .before .args .input .now)) (c .before .before .before .before .name-string .ensures) l)
+    let at-name-string = c .before .before .before .before in
+    let at-if1 = at-name-string .before in
+    let at-fit-one = at-if1 .before in
+    let at-args = at-fit-one .before .before .before .before in (
+      at-fit-one .fit-one .ensures .1 (at-if1 .if1 .taken) .1,
+      at-fit-one .fit-one .ensures .1 (at-if1 .if1 .taken) .0,
+      count-small _ (nameString componentLimit (at-args .args .input .now)) (at-name-string .name-string .ensures) l,
+    )
 
 same-length : tie.Need-same-length
 same-length c = search needs
@@ -41,7 +42,15 @@ same-length-2 c = search needs
 returns : tie.Need-returns
 unfolding klemNameString
 returns c =
-    named one _ _ _ _ _ (sym (c .before .before .before .before .before .before .before .before .before .before .before .fit-one .ensures .0) ∙ c .before .before .before .before .before .before .before .before .before .before .if1 .taken) (c .before .before .before .before .tell-path .ensures) _ (nameString componentLimit (c .before .before .before .before .before .before .before .before .before .before .before .before .before .before .before .args .input .now)) (name-numbered (c .before .before .before .before .before .before .before .before .before .name-string .result .said)) (c .before .before .before .before .before .name2 .ensures) (c .before .before .before .before .before .before .before .before .before .name-string .ensures)
+    let at-tell-path = c .before .before .before .before in
+    let at-name2 = at-tell-path .before in
+    let at-name-string = at-name2 .before .before .before .before in
+    let at-if1 = at-name-string .before in
+    let at-fit-one = at-if1 .before in
+    let at-args = at-fit-one .before .before .before .before in
+    named one _ _ _ _ _ (sym (at-fit-one .fit-one .ensures .0) ∙ at-if1 .if1 .taken) (at-tell-path .tell-path .ensures) _
+    (nameString componentLimit (at-args .args .input .now)) (name-numbered (at-name-string .name-string .result .said)) (at-name2 .name2 .ensures)
+    (at-name-string .name-string .ensures)
 
 returns-2 : tie.Need-returns-2
 unfolding klemNameString

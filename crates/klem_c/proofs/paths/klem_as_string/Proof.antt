@@ -1,19 +1,12 @@
-use mathlib.Core.Path.{sym, _∙_}
+-- The layer below writes the text and says what is told of it (`written`).
+-- Where the slices do not fit nothing is written.
 use Rattle.table.specs.Memory.{left}
+use mathlib.Core.Path.{sym, _∙_}
+use borrow.Author.Needs.{needs}
 use Rattle.klem_c.specs.Paths.{klemAsString}
 use Rattle.klem_c.proofs.Results.{written}
-use borrow.Author.Needs.{needs}
-use native.Mathlib.Omega.{arith}
-use borrow.Author.Needs.{needs}
 use Rattle.klem_c.proofs.paths.klem_as_string.Statement.{statement}
 use Rattle.klem_c.proofs.paths.klem_as_string.Tie as tie
-use Rattle.klem_c.proofs.paths.klem_as_string.Reads as reads
-use Rattle.klem_c.proofs.paths.klem_as_string.Lts as lts
-use Rattle.klem_c.proofs.reply.tell.Reads as tell-reads
-use Rattle.klem_c.proofs.reply.text.Reads as text-reads
-use Rattle.klem_c.proofs.slices.fit_one.Reads as fit-one-reads
-use Rattle.klem_c.proofs.slices.path_in.Reads as path-in-reads
-use Rattle.path.proofs.as_string.Reads as as-string-reads
 
 fit-one-requires : tie.Need-fit-one-requires
 fit-one-requires c κs = search needs
@@ -29,7 +22,9 @@ text-requires c κs = search needs
 
 tell-requires : tie.Need-tell-requires
 tell-requires c κs =
-    c .before .before .before .before .before .before .before .before .fit-one .ensures .1 (c .before .before .before .before .before .before .before .if1 .taken) .0
+    let at-if1 = c .before .before .before .before .before .before .before in
+    let at-fit-one = at-if1 .before in
+    at-fit-one .fit-one .ensures .1 (at-if1 .if1 .taken) .0
 
 same-length : tie.Need-same-length
 same-length c = search needs
@@ -40,7 +35,14 @@ same-length-2 c = search needs
 returns : tie.Need-returns
 unfolding klemAsString
 returns c =
-    written _ _ _ _ (sym (c .before .before .before .before .before .before .before .before .before .before .before .fit-one .ensures .0) ∙ c .before .before .before .before .before .before .before .before .before .before .if1 .taken) (c .before .before .tell .ensures) (c .before .before .before .text2 .ensures) (rw (c .before .before .before .before .before .before .before .before .before .path-in .ensures) at (c .before .before .before .before .before .before .before .as-string .ensures))
+    let at-tell = c .before .before in
+    let at-text2 = at-tell .before in
+    let at-as-string = at-text2 .before .before .before .before in
+    let at-path-in = at-as-string .before .before in
+    let at-if1 = at-path-in .before in
+    let at-fit-one = at-if1 .before in
+    written _ _ _ _ (sym (at-fit-one .fit-one .ensures .0) ∙ at-if1 .if1 .taken) (at-tell .tell .ensures) (at-text2 .text2 .ensures)
+    (rw (at-path-in .path-in .ensures) at (at-as-string .as-string .ensures))
 
 returns-2 : tie.Need-returns-2
 unfolding klemAsString

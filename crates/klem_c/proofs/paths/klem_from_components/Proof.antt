@@ -1,24 +1,17 @@
+-- The path that the layer below gives goes to `out` with its count in one byte, since it has at most 32 components; a refusal leaves `out` (`named`).
+-- Where the slices do not fit nothing is written.
+use Rattle.table.specs.Memory.{left}
+use mathlib.Core.Path.{_≡_, sym, _∙_}
+use lib.ListN.{length}
+use borrow.Author.Needs.{needs}
 use Rattle.name_object.specs.Component.{componentLimit}
 use Rattle.name_object.specs.Memory.{pathIn}
 use Rattle.path.specs.Normal.{alone}
-use mathlib.Core.Path.{_≡_, sym, _∙_}
-use lib.ListN.{length}
-use Rattle.table.specs.Memory.{left}
 use Rattle.klem_c.specs.Result.{nothing}
 use Rattle.klem_c.specs.Paths.{klemFromComponents}
 use Rattle.klem_c.proofs.Results.{path-numbered, count-small, named}
-use borrow.Author.Needs.{needs}
-use native.Mathlib.Omega.{arith}
-use borrow.Author.Needs.{needs}
 use Rattle.klem_c.proofs.paths.klem_from_components.Statement.{statement}
 use Rattle.klem_c.proofs.paths.klem_from_components.Tie as tie
-use Rattle.klem_c.proofs.paths.klem_from_components.Reads as reads
-use Rattle.klem_c.proofs.paths.klem_from_components.Lts as lts
-use Rattle.klem_c.proofs.reply.path.Reads as path-reads
-use Rattle.klem_c.proofs.reply.tell_path.Reads as tell-path-reads
-use Rattle.klem_c.proofs.slices.copy.Reads as copy-reads
-use Rattle.klem_c.proofs.slices.fit_two.Reads as fit-two-reads
-use Rattle.path.proofs.from_components.Reads as from-components-reads
 
 fit-two-requires : tie.Need-fit-two-requires
 fit-two-requires c κs = search needs
@@ -38,7 +31,15 @@ path-requires c κs = search needs
 tell-path-requires : tie.Need-tell-path-requires
 tell-path-requires c κs =
     let l : length (c .before .before .before .before .from-components .result .name .bytes) ≡ 128 = search needs in
-    (c .before .before .before .before .before .before .before .before .before .fit-two .ensures .1 (c .before .before .before .before .before .before .before .before .if1 .taken) .1, c .before .before .before .before .before .before .before .before .before .fit-two .ensures .1 (c .before .before .before .before .before .before .before .before .if1 .taken) .0, count-small _ (alone (pathIn componentLimit (record { count = c .before .before .before .before .before .before .before .before .before .before .before .before .before .args .count; bytes = c .before .before .before .before .before .before .before .before .before .before .before .before .before .args .bytes .now }))) (rw (c .before .before .before .before .before .before .copy .ensures) at (c .before .before .before .before .from-components .ensures)) l)
+    let at-from-components = c .before .before .before .before in
+    let at-copy = at-from-components .before .before in
+    let at-if1 = at-copy .before .before in
+    let at-fit-two = at-if1 .before in
+    let at-args = at-fit-two .before .before .before .before in (
+      at-fit-two .fit-two .ensures .1 (at-if1 .if1 .taken) .1,
+      at-fit-two .fit-two .ensures .1 (at-if1 .if1 .taken) .0,
+      count-small _ (alone (pathIn componentLimit (record { count = at-args .args .count; bytes = at-args .args .bytes .now }))) (rw (at-copy .copy .ensures) at (at-from-components .from-components .ensures)) l,
+    )
 
 same-length : tie.Need-same-length
 same-length c = search needs
@@ -49,7 +50,17 @@ same-length-2 c = search needs
 returns : tie.Need-returns
 unfolding klemFromComponents
 returns c =
-    named nothing _ _ _ _ _ (sym (c .before .before .before .before .before .before .before .before .before .before .before .before .before .before .fit-two .ensures .0) ∙ c .before .before .before .before .before .before .before .before .before .before .before .before .before .if1 .taken) (c .before .before .before .before .tell-path .ensures) _ (alone (pathIn componentLimit (record { count = c .before .before .before .before .before .before .before .before .before .before .before .before .before .before .before .before .before .before .args .count; bytes = c .before .before .before .before .before .before .before .before .before .before .before .before .before .before .before .before .before .before .args .bytes .now }))) (path-numbered (c .before .before .before .before .before .before .before .before .before .from-components .result .said)) (c .before .before .before .before .before .path .ensures) (rw (c .before .before .before .before .before .before .before .before .before .before .before .copy .ensures) at (c .before .before .before .before .before .before .before .before .before .from-components .ensures))
+    let at-tell-path = c .before .before .before .before in
+    let at-path = at-tell-path .before in
+    let at-from-components = at-path .before .before .before .before in
+    let at-copy = at-from-components .before .before in
+    let at-if1 = at-copy .before .before in
+    let at-fit-two = at-if1 .before in
+    let at-args = at-fit-two .before .before .before .before in
+    named nothing _ _ _ _ _ (sym (at-fit-two .fit-two .ensures .0) ∙ at-if1 .if1 .taken) (at-tell-path .tell-path .ensures) _
+    (alone (pathIn componentLimit (record { count = at-args .args .count; bytes = at-args .args .bytes .now })))
+    (path-numbered (at-from-components .from-components .result .said)) (at-path .path .ensures)
+    (rw (at-copy .copy .ensures) at (at-from-components .from-components .ensures))
 
 returns-2 : tie.Need-returns-2
 unfolding klemFromComponents

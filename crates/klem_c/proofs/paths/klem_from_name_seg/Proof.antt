@@ -1,21 +1,16 @@
-use Rattle.path.specs.Normal.{segmentPath, alone}
-use mathlib.Core.Path.{_≡_, sym, _∙_}
-use lib.ListN.{length}
+-- The path that the layer below gives goes to `out` with its count in one byte, since it has at most 32 components; a refusal leaves `out` (`named`).
+-- Where the slices do not fit nothing is written.
 use Rattle.table.specs.Memory.{left}
+use mathlib.Core.Path.{_≡_, sym, _∙_}
+use native.Mathlib.Omega.{arith}
+use lib.ListN.{length}
+use borrow.Author.Needs.{needs}
+use Rattle.path.specs.Normal.{segmentPath, alone}
 use Rattle.klem_c.specs.Result.{nothing}
 use Rattle.klem_c.specs.Paths.{klemFromNameSeg}
 use Rattle.klem_c.proofs.Results.{four, path-numbered, count-small, named}
-use borrow.Author.Needs.{needs}
-use native.Mathlib.Omega.{arith}
-use borrow.Author.Needs.{needs}
 use Rattle.klem_c.proofs.paths.klem_from_name_seg.Statement.{statement}
 use Rattle.klem_c.proofs.paths.klem_from_name_seg.Tie as tie
-use Rattle.klem_c.proofs.paths.klem_from_name_seg.Reads as reads
-use Rattle.klem_c.proofs.paths.klem_from_name_seg.Lts as lts
-use Rattle.klem_c.proofs.reply.path.Reads as path-reads
-use Rattle.klem_c.proofs.reply.tell_path.Reads as tell-path-reads
-use Rattle.klem_c.proofs.slices.fit_two.Reads as fit-two-reads
-use Rattle.path.proofs.from_name_seg.Reads as from-name-seg-reads
 
 fit-two-requires : tie.Need-fit-two-requires
 fit-two-requires c κs = search needs
@@ -44,7 +39,14 @@ path-requires c κs = search needs
 tell-path-requires : tie.Need-tell-path-requires
 tell-path-requires c κs =
     let l : length (c .before .before .before .before .from-name-seg .result .name .bytes) ≡ 128 = search needs in
-    (c .before .before .before .before .before .before .before .before .before .before .fit-two .ensures .1 (c .before .before .before .before .before .before .before .before .before .if1 .taken) .1, c .before .before .before .before .before .before .before .before .before .before .fit-two .ensures .1 (c .before .before .before .before .before .before .before .before .before .if1 .taken) .0, count-small _ (alone (segmentPath (c .before .before .before .before .before .before .before .before .before .before .before .before .before .before .args .seg .now))) (rw four at (c .before .before .before .before .from-name-seg .ensures)) l)
+    let at-from-name-seg = c .before .before .before .before in
+    let at-if1 = at-from-name-seg .before .before .before .before .before in
+    let at-fit-two = at-if1 .before in
+    let at-args = at-fit-two .before .before .before .before in (
+      at-fit-two .fit-two .ensures .1 (at-if1 .if1 .taken) .1,
+      at-fit-two .fit-two .ensures .1 (at-if1 .if1 .taken) .0,
+      count-small _ (alone (segmentPath (at-args .args .seg .now))) (rw four at (at-from-name-seg .from-name-seg .ensures)) l,
+    )
 
 same-length : tie.Need-same-length
 same-length c = search needs
@@ -55,7 +57,15 @@ same-length-2 c = search needs
 returns : tie.Need-returns
 unfolding klemFromNameSeg
 returns c =
-    named nothing _ _ _ _ _ (sym (c .before .before .before .before .before .before .before .before .before .before .before .before .before .before .before .fit-two .ensures .0) ∙ c .before .before .before .before .before .before .before .before .before .before .before .before .before .before .if1 .taken) (c .before .before .before .before .tell-path .ensures) _ (alone (segmentPath (c .before .before .before .before .before .before .before .before .before .before .before .before .before .before .before .before .before .before .before .args .seg .now))) (path-numbered (c .before .before .before .before .before .before .before .before .before .from-name-seg .result .said)) (c .before .before .before .before .before .path .ensures) (rw four at (c .before .before .before .before .before .before .before .before .before .from-name-seg .ensures))
+    let at-tell-path = c .before .before .before .before in
+    let at-path = at-tell-path .before in
+    let at-from-name-seg = at-path .before .before .before .before in
+    let at-if1 = at-from-name-seg .before .before .before .before .before in
+    let at-fit-two = at-if1 .before in
+    let at-args = at-fit-two .before .before .before .before in
+    named nothing _ _ _ _ _ (sym (at-fit-two .fit-two .ensures .0) ∙ at-if1 .if1 .taken) (at-tell-path .tell-path .ensures) _
+    (alone (segmentPath (at-args .args .seg .now))) (path-numbered (at-from-name-seg .from-name-seg .result .said)) (at-path .path .ensures)
+    (rw four at (at-from-name-seg .from-name-seg .ensures))
 
 returns-2 : tie.Need-returns-2
 unfolding klemFromNameSeg

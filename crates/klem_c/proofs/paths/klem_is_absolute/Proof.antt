@@ -1,20 +1,13 @@
-use mathlib.Core.Path.{refl, sym, _∙_}
+-- What the layer below says is told in words (`answered`).
+-- Where the slices do not fit nothing is written.
 use Rattle.table.specs.Memory.{left}
+use mathlib.Core.Path.{refl, sym, _∙_}
+use borrow.Author.Needs.{needs}
 use Rattle.klem_c.specs.Result.{one, flag}
 use Rattle.klem_c.specs.Paths.{klemIsAbsolute}
-use Rattle.klem_c.proofs.Results.{one-fits, answered}
-use borrow.Author.Needs.{needs}
-use native.Mathlib.Omega.{arith}
-use borrow.Author.Needs.{needs}
+use Rattle.klem_c.proofs.Results.{answered}
 use Rattle.klem_c.proofs.paths.klem_is_absolute.Statement.{statement}
 use Rattle.klem_c.proofs.paths.klem_is_absolute.Tie as tie
-use Rattle.klem_c.proofs.paths.klem_is_absolute.Reads as reads
-use Rattle.klem_c.proofs.paths.klem_is_absolute.Lts as lts
-use Rattle.klem_c.proofs.reply.tell.Reads as tell-reads
-use Rattle.klem_c.proofs.reply.test.Reads as test-reads
-use Rattle.klem_c.proofs.slices.fit_one.Reads as fit-one-reads
-use Rattle.klem_c.proofs.slices.path_in.Reads as path-in-reads
-use Rattle.path.proofs.is_absolute.Reads as is-absolute-reads
 
 fit-one-requires : tie.Need-fit-one-requires
 fit-one-requires c κs = search needs
@@ -38,7 +31,14 @@ same-length c = search needs
 returns : tie.Need-returns
 unfolding klemIsAbsolute
 returns c =
-    answered _ _ _ _ (sym (c .before .before .before .before .before .before .before .before .fit-one .ensures .0) ∙ c .before .before .before .before .before .before .before .if1 .taken) (c .before .before .tell .ensures) (λ b. one (flag b)) (c .before .before .before .test .ensures) (rw (c .before .before .before .before .before .path-in .ensures) at (c .before .before .before .before .is-absolute .ensures)) refl
+    let at-tell = c .before .before in
+    let at-test = at-tell .before in
+    let at-is-absolute = at-test .before in
+    let at-path-in = at-is-absolute .before in
+    let at-if1 = at-path-in .before .before in
+    let at-fit-one = at-if1 .before in
+    answered _ _ _ _ (sym (at-fit-one .fit-one .ensures .0) ∙ at-if1 .if1 .taken) (at-tell .tell .ensures) (λ b. one (flag b)) (at-test .test .ensures)
+    (rw (at-path-in .path-in .ensures) at (at-is-absolute .is-absolute .ensures)) refl
 
 returns-2 : tie.Need-returns-2
 unfolding klemIsAbsolute

@@ -1,26 +1,18 @@
+-- The path that the layer below gives goes to `out` with its count in one byte, since it has at most 32 components; a refusal leaves `out` (`named`).
+-- Where the slices do not fit nothing is written.
+use Rattle.table.specs.Memory.{left}
+use mathlib.Core.Path.{_≡_, sym, _∙_}
+use lib.ListN.{length}
+use borrow.Author.Needs.{needs}
 use Rattle.pkg_length.specs.Refusal.{andThen}
 use Rattle.name_object.specs.Component.{componentLimit}
 use Rattle.name_object.specs.Memory.{pathIn}
 use Rattle.path.specs.Normal.{alone, normal}
-use Rattle.klem_c.specs.Paths.{pathAt}
-use mathlib.Core.Path.{_≡_, sym, _∙_}
-use lib.ListN.{length}
-use Rattle.table.specs.Memory.{left}
+use Rattle.klem_c.specs.Paths.{pathAt, klemNormalize}
 use Rattle.klem_c.specs.Result.{nothing}
-use Rattle.klem_c.specs.Paths.{klemNormalize}
 use Rattle.klem_c.proofs.Results.{path-numbered, count-small, named}
-use borrow.Author.Needs.{needs}
-use native.Mathlib.Omega.{arith}
-use borrow.Author.Needs.{needs}
 use Rattle.klem_c.proofs.paths.klem_normalize.Statement.{statement}
 use Rattle.klem_c.proofs.paths.klem_normalize.Tie as tie
-use Rattle.klem_c.proofs.paths.klem_normalize.Reads as reads
-use Rattle.klem_c.proofs.paths.klem_normalize.Lts as lts
-use Rattle.klem_c.proofs.reply.path.Reads as path-reads
-use Rattle.klem_c.proofs.reply.tell_path.Reads as tell-path-reads
-use Rattle.klem_c.proofs.slices.fit_two.Reads as fit-two-reads
-use Rattle.klem_c.proofs.slices.path_in.Reads as path-in-reads
-use Rattle.path.proofs.normalize.Reads as normalize-reads
 
 fit-two-requires : tie.Need-fit-two-requires
 fit-two-requires c κs = search needs
@@ -37,7 +29,15 @@ path-requires c κs = search needs
 tell-path-requires : tie.Need-tell-path-requires
 tell-path-requires c κs =
     let l : length (c .before .before .before .before .normalize .result .name .bytes) ≡ 128 = search needs in
-    (c .before .before .before .before .before .before .before .fit-two .ensures .1 (c .before .before .before .before .before .before .if1 .taken) .1, c .before .before .before .before .before .before .before .fit-two .ensures .1 (c .before .before .before .before .before .before .if1 .taken) .0, count-small _ (alone (andThen (pathIn componentLimit (pathAt (c .before .before .before .before .before .before .before .before .before .before .before .args .path .now))) (normal componentLimit))) (rw (c .before .before .before .before .before .path-in .ensures) at (c .before .before .before .before .normalize .ensures)) l)
+    let at-normalize = c .before .before .before .before in
+    let at-path-in = at-normalize .before in
+    let at-if1 = at-path-in .before in
+    let at-fit-two = at-if1 .before in
+    let at-args = at-fit-two .before .before .before .before in (
+      at-fit-two .fit-two .ensures .1 (at-if1 .if1 .taken) .1,
+      at-fit-two .fit-two .ensures .1 (at-if1 .if1 .taken) .0,
+      count-small _ (alone (andThen (pathIn componentLimit (pathAt (at-args .args .path .now))) (normal componentLimit))) (rw (at-path-in .path-in .ensures) at (at-normalize .normalize .ensures)) l,
+    )
 
 same-length : tie.Need-same-length
 same-length c = search needs
@@ -48,7 +48,17 @@ same-length-2 c = search needs
 returns : tie.Need-returns
 unfolding klemNormalize
 returns c =
-    named nothing _ _ _ _ _ (sym (c .before .before .before .before .before .before .before .before .before .before .before .before .fit-two .ensures .0) ∙ c .before .before .before .before .before .before .before .before .before .before .before .if1 .taken) (c .before .before .before .before .tell-path .ensures) _ (alone (andThen (pathIn componentLimit (pathAt (c .before .before .before .before .before .before .before .before .before .before .before .before .before .before .before .before .args .path .now))) (normal componentLimit))) (path-numbered (c .before .before .before .before .before .before .before .before .before .normalize .result .said)) (c .before .before .before .before .before .path .ensures) (rw (c .before .before .before .before .before .before .before .before .before .before .path-in .ensures) at (c .before .before .before .before .before .before .before .before .before .normalize .ensures))
+    let at-tell-path = c .before .before .before .before in
+    let at-path = at-tell-path .before in
+    let at-normalize = at-path .before .before .before .before in
+    let at-path-in = at-normalize .before in
+    let at-if1 = at-path-in .before in
+    let at-fit-two = at-if1 .before in
+    let at-args = at-fit-two .before .before .before .before in
+    named nothing _ _ _ _ _ (sym (at-fit-two .fit-two .ensures .0) ∙ at-if1 .if1 .taken) (at-tell-path .tell-path .ensures) _
+    (alone (andThen (pathIn componentLimit (pathAt (at-args .args .path .now))) (normal componentLimit)))
+    (path-numbered (at-normalize .normalize .result .said)) (at-path .path .ensures)
+    (rw (at-path-in .path-in .ensures) at (at-normalize .normalize .ensures))
 
 returns-2 : tie.Need-returns-2
 unfolding klemNormalize

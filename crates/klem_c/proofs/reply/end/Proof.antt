@@ -1,12 +1,7 @@
-use borrow.Author.Needs.{needs}
-use native.Mathlib.Omega.{arith}
+-- Each end has its words, with the units behind them.
 use borrow.Author.Needs.{needs}
 use Rattle.klem_c.proofs.reply.end.Statement.{statement}
 use Rattle.klem_c.proofs.reply.end.Tie as tie
-use Rattle.klem_c.proofs.reply.end.Reads as reads
-use Rattle.klem_c.proofs.reply.end.Lts as lts
-use Rattle.klem_c.proofs.reply.given.Reads as given-reads
-use Rattle.pkg_length.proofs.AmlError.numbered.Reads as numbered-reads
 
 enum-told : tie.Need-enum-told
 enum-told c = search needs

@@ -1,12 +1,7 @@
-use borrow.Author.Needs.{needs}
-use native.Mathlib.Omega.{arith}
+-- A value stands in the words that the definition names, and a refusal is told as any other.
 use borrow.Author.Needs.{needs}
 use Rattle.klem_c.proofs.reply.level.Statement.{statement}
 use Rattle.klem_c.proofs.reply.level.Tie as tie
-use Rattle.klem_c.proofs.reply.level.Reads as reads
-use Rattle.klem_c.proofs.reply.level.Lts as lts
-use Rattle.klem_c.proofs.reply.given.Reads as given-reads
-use Rattle.klem_c.proofs.reply.refusal.Reads as refusal-reads
 
 enum-known-a : tie.Need-enum-known-a
 enum-known-a c = search needs

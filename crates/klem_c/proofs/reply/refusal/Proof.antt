@@ -1,11 +1,7 @@
-use borrow.Author.Needs.{needs}
-use native.Mathlib.Omega.{arith}
+-- The number and the place are the table's.
 use borrow.Author.Needs.{needs}
 use Rattle.klem_c.proofs.reply.refusal.Statement.{statement}
 use Rattle.klem_c.proofs.reply.refusal.Tie as tie
-use Rattle.klem_c.proofs.reply.refusal.Reads as reads
-use Rattle.klem_c.proofs.reply.refusal.Lts as lts
-use Rattle.pkg_length.proofs.AmlError.numbered.Reads as numbered-reads
 
 numbered-requires : tie.Need-numbered-requires
 numbered-requires c κs = search needs

@@ -1,13 +1,11 @@
+-- Eight stores into a result of eight words leave those words (`eight`).
 use mathlib.Core.Path.{refl}
-use lib.ListN.{length-set}
-use Rattle.klem_c.proofs.Results.{eight}
-use borrow.Author.Needs.{needs}
 use native.Mathlib.Omega.{arith}
+use lib.ListN.{length-set}
 use borrow.Author.Needs.{needs}
+use Rattle.klem_c.proofs.Results.{eight}
 use Rattle.klem_c.proofs.reply.tell.Statement.{statement}
 use Rattle.klem_c.proofs.reply.tell.Tie as tie
-use Rattle.klem_c.proofs.reply.tell.Reads as reads
-use Rattle.klem_c.proofs.reply.tell.Lts as lts
 
 slice-write-result : tie.Need-slice-write-result
 slice-write-result c = search needs

@@ -1,16 +1,11 @@
-use mathlib.Core.Path.{_∙_}
-use borrow.Author.Tests.{eq-eqb, ne-eqb}
+-- `out` is written where the number is 0, and the result in either case.
 use Rattle.table.specs.Memory.{left}
 use Rattle.klem_c.proofs.Copies.{put-path}
-use borrow.Author.Needs.{needs}
-use native.Mathlib.Omega.{arith}
+use mathlib.Core.Path.{_∙_}
+use borrow.Author.Tests.{eq-eqb, ne-eqb}
 use borrow.Author.Needs.{needs}
 use Rattle.klem_c.proofs.reply.tell_path.Statement.{statement}
 use Rattle.klem_c.proofs.reply.tell_path.Tie as tie
-use Rattle.klem_c.proofs.reply.tell_path.Reads as reads
-use Rattle.klem_c.proofs.reply.tell_path.Lts as lts
-use Rattle.klem_c.proofs.reply.tell.Reads as tell-reads
-use Rattle.klem_c.proofs.slices.put_path.Reads as put-path-reads
 
 put-path-requires : tie.Need-put-path-requires
 put-path-requires c κs = search needs
@@ -26,7 +21,10 @@ same-length-2 c = search needs
 
 returns : tie.Need-returns
 returns c =
-    (c .before .before .tell .ensures .0, c .before .before .tell .ensures .1, c .before .before .before .before .before .before .put-path .ensures ∙ rw (eq-eqb _ 0 (c .before .before .before .before .before .before .before .before .if1 .taken)))
+    let at-tell = c .before .before in
+    let at-put-path = at-tell .before .before .before .before in
+    let at-if1 = at-put-path .before .before in
+    (at-tell .tell .ensures .0, at-tell .tell .ensures .1, at-put-path .put-path .ensures ∙ rw (eq-eqb _ 0 (at-if1 .if1 .taken)))
 
 tell-requires-2 : tie.Need-tell-requires-2
 tell-requires-2 c κs = search needs

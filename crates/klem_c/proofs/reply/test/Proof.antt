@@ -1,17 +1,8 @@
-use mathlib.Core.Path.{ap}
-use mathlib.Core.List.{[], _∷_}
-use Prim.Native.Nat.{ℕ}
-use Rattle.klem_c.specs.Result.{filled}
+-- A value stands in the words that the definition names, and a refusal is told as any other.
+use borrow.Author.Needs.{needs}
 use Rattle.klem_c.proofs.Copies.{as-flag}
-use borrow.Author.Needs.{needs}
-use native.Mathlib.Omega.{arith}
-use borrow.Author.Needs.{needs}
 use Rattle.klem_c.proofs.reply.test.Statement.{statement}
 use Rattle.klem_c.proofs.reply.test.Tie as tie
-use Rattle.klem_c.proofs.reply.test.Reads as reads
-use Rattle.klem_c.proofs.reply.test.Lts as lts
-use Rattle.klem_c.proofs.reply.given.Reads as given-reads
-use Rattle.klem_c.proofs.reply.refusal.Reads as refusal-reads
 
 enum-known-a : tie.Need-enum-known-a
 enum-known-a c = search needs

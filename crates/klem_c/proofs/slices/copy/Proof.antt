@@ -1,14 +1,14 @@
-use mathlib.Core.Path.{_≡_, refl, _∙_, ap}
-use mathlib.Core.List.{List, _++_}
-use Prim.Native.Nat.{ℕ, _-_, _≤_}
-use lib.ListN.{length, set, take, drop, length-set}
-use Rattle.klem_c.proofs.Copies.{copied, copied-all}
-use borrow.Author.Needs.{needs}
+-- What is behind the loop is the source's, and what is before it is as it was (`copied`); at the end nothing is before it.
+-- The measure is what is left of the source.
+use mathlib.Core.Path.{_≡_, refl, _∙_}
+use mathlib.Core.List.{_++_}
+use Prim.Native.Nat.{_-_, _≤_}
 use native.Mathlib.Omega.{arith}
+use lib.ListN.{length, take, drop, length-set}
+use borrow.Author.Needs.{needs}
+use Rattle.klem_c.proofs.Copies.{copied, copied-all}
 use Rattle.klem_c.proofs.slices.copy.Statement.{statement}
 use Rattle.klem_c.proofs.slices.copy.Tie as tie
-use Rattle.klem_c.proofs.slices.copy.Reads as reads
-use Rattle.klem_c.proofs.slices.copy.Lts as lts
 
 abbrev Inv-loop : tie.InvT-loop
 Inv-loop dst₀ src i₀ dst i = (i ≤ length src) × (length dst ≡ length dst₀) × (dst ≡ take i src ++ drop i dst₀)
@@ -33,7 +33,9 @@ loop-less c = search needs
 
 loop-again : tie.Need-loop-again Inv-loop μ-loop
 loop-again c =
-    let at = c .before .before .loop in let a = c .before .before .before .args in
+    let at-loop = c .before .before in
+    let at-args = at-loop .before in
+    let at = at-loop .loop in let a = at-args .args in
     (search needs, simp length-set (at .inv .1), rw (at .inv .2) (copied (a .dst .now) (a .src .now) (at .i) 0 (omega arith) (omega arith)))
 
 same-length : tie.Need-same-length Inv-loop μ-loop
@@ -41,7 +43,9 @@ same-length c = search needs
 
 returns : tie.Need-returns Inv-loop μ-loop
 returns c =
-    c .before .loop .inv .2 ∙ copied-all (c .before .before .args .dst .now) (c .before .before .args .src .now) (c .before .loop .i) (omega arith) (omega arith)
+    let at-loop = c .before in
+    let at-args = at-loop .before in
+    at-loop .loop .inv .2 ∙ copied-all (at-args .args .dst .now) (at-args .args .src .now) (at-loop .loop .i) (omega arith) (omega arith)
 
 pub copy-spec : {M : Type 1} → statement M
 copy-spec =

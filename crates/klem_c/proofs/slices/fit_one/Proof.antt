@@ -1,12 +1,10 @@
-use Rattle.klem_c.proofs.Results.{one-fits}
-use borrow.Author.Tests.{eq-eqb, ne-eqb}
+-- The tests are made in the order of the definition, and the first that fails decides it.
+-- Where all hold, the lengths are those that are wanted.
 use Rattle.table.specs.Memory.{left}
-use borrow.Author.Needs.{needs}
-use native.Mathlib.Omega.{arith}
+use borrow.Author.Tests.{eq-eqb, ne-eqb}
+use Rattle.klem_c.proofs.Results.{one-fits}
 use Rattle.klem_c.proofs.slices.fit_one.Statement.{statement}
 use Rattle.klem_c.proofs.slices.fit_one.Tie as tie
-use Rattle.klem_c.proofs.slices.fit_one.Reads as reads
-use Rattle.klem_c.proofs.slices.fit_one.Lts as lts
 
 returns : tie.Need-returns
 returns c =

@@ -1,20 +1,24 @@
-use Rattle.klem_c.proofs.Results.{two-fit}
-use borrow.Author.Tests.{eq-eqb, ne-eqb}
+-- The tests are made in the order of the definition, and the first that fails decides it.
+-- Where all hold, the lengths are those that are wanted.
 use Rattle.table.specs.Memory.{left}
-use borrow.Author.Needs.{needs}
-use native.Mathlib.Omega.{arith}
+use borrow.Author.Tests.{eq-eqb, ne-eqb}
+use Rattle.klem_c.proofs.Results.{two-fit}
 use Rattle.klem_c.proofs.slices.fit_two.Statement.{statement}
 use Rattle.klem_c.proofs.slices.fit_two.Tie as tie
-use Rattle.klem_c.proofs.slices.fit_two.Reads as reads
-use Rattle.klem_c.proofs.slices.fit_two.Lts as lts
 
 returns : tie.Need-returns
 returns c =
-    two-fit (c .before .before .args .result) (c .before .before .args .path) (c .before .before .args .a) (c .before .before .args .want) (rw (eq-eqb _ _ (c .before .if1 .taken), eq-eqb _ _ (c .if2 .taken)))
+    let at-if1 = c .before in
+    let at-args = at-if1 .before in
+    two-fit (at-args .args .result) (at-args .args .path) (at-args .args .a) (at-args .args .want)
+    (rw (eq-eqb _ _ (at-if1 .if1 .taken), eq-eqb _ _ (c .if2 .taken)))
 
 returns-2 : tie.Need-returns-2
 returns-2 c =
-    two-fit (c .before .before .args .result) (c .before .before .args .path) (c .before .before .args .a) (c .before .before .args .want) (rw (eq-eqb _ _ (c .before .if1 .taken), ne-eqb _ _ (c .if2 .left)))
+    let at-if1 = c .before in
+    let at-args = at-if1 .before in
+    two-fit (at-args .args .result) (at-args .args .path) (at-args .args .a) (at-args .args .want)
+    (rw (eq-eqb _ _ (at-if1 .if1 .taken), ne-eqb _ _ (c .if2 .left)))
 
 returns-3 : tie.Need-returns-3
 returns-3 c =

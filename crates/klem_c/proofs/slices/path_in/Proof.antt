@@ -1,17 +1,13 @@
-use mathlib.Core.Path.{_∙_}
-use Rattle.klem_c.proofs.Copies.{tail-of}
-use mathlib.Core.Path.{ap}
+-- The count is the first byte, and the bytes are a copy of the others. A byte fits a `usize`.
+use mathlib.Core.Path.{_∙_, ap}
 use mathlib.Core.List.{List}
 use Prim.Native.Nat.{ℕ}
+use native.Mathlib.Omega.{arith}
 use lib.ListN.{getD}
 use borrow.Author.Needs.{needs}
-use native.Mathlib.Omega.{arith}
-use borrow.Author.Needs.{needs}
+use Rattle.klem_c.proofs.Copies.{tail-of}
 use Rattle.klem_c.proofs.slices.path_in.Statement.{statement}
 use Rattle.klem_c.proofs.slices.path_in.Tie as tie
-use Rattle.klem_c.proofs.slices.path_in.Reads as reads
-use Rattle.klem_c.proofs.slices.path_in.Lts as lts
-use Rattle.klem_c.proofs.slices.copy.Reads as copy-reads
 
 slice-aggregate-copy : tie.Need-slice-aggregate-copy
 slice-aggregate-copy c = search needs
@@ -36,7 +32,9 @@ cast-t7 c = omega (arith, c .shared-slice-known2 .given 0)
 
 returns : tie.Need-returns
 returns c =
-    ap (λ (r : List ℕ). record { count = getD (c .before .before .before .before .before .before .args .src .now) 0 0; bytes = r }) (c .before .before .copy .ensures ∙ tail-of 1 (c .before .before .before .before .before .before .args .src .now))
+    let at-copy = c .before .before in
+    let at-args = at-copy .before .before .before .before in
+    ap (λ (r : List ℕ). record { count = getD (at-args .args .src .now) 0 0; bytes = r }) (at-copy .copy .ensures ∙ tail-of 1 (at-args .args .src .now))
 
 pub path-in-spec : {M : Type 1} → statement M
 path-in-spec =

@@ -1,18 +1,13 @@
-use mathlib.Core.Path.{_≡_}
-use lib.ListN.{length, length-drop, length-take}
-use mathlib.Core.Path.{_∙_, ap}
+-- The count is stored, which one byte holds, and the bytes are copied behind it (`put-path`).
+use mathlib.Core.Path.{_≡_, _∙_, ap}
 use mathlib.Core.List.{List, _∷_}
 use Prim.Native.Nat.{ℕ}
-use lib.ListN.{length-set}
-use Rattle.klem_c.proofs.Copies.{put-path}
-use borrow.Author.Needs.{needs}
 use native.Mathlib.Omega.{arith}
+use lib.ListN.{length, length-drop, length-take, length-set}
 use borrow.Author.Needs.{needs}
+use Rattle.klem_c.proofs.Copies.{put-path}
 use Rattle.klem_c.proofs.slices.put_path.Statement.{statement}
 use Rattle.klem_c.proofs.slices.put_path.Tie as tie
-use Rattle.klem_c.proofs.slices.put_path.Reads as reads
-use Rattle.klem_c.proofs.slices.put_path.Lts as lts
-use Rattle.klem_c.proofs.slices.copy.Reads as copy-reads
 
 cast-out : tie.Need-cast-out
 cast-out c = search needs
@@ -37,11 +32,17 @@ copy-requires c κs =
 same-length : tie.Need-same-length
 same-length c =
     let l : length (c .before .before .before .before .before .before .before .before .args .t2 .bytes) ≡ 128 = search needs in
-    omega (arith, ap length (put-path (c .before .before .before .before .before .before .before .before .args .out .now) (c .before .before .copy .last .0) (c .before .before .before .before .before .before .before .before .args .t2 .count) (omega arith)), ap length (c .before .before .copy .ensures))
+    let at-copy = c .before .before in
+    let at-args = at-copy .before .before .before .before .before .before in
+    omega
+    (arith, ap length (put-path (at-args .args .out .now) (at-copy .copy .last .0) (at-args .args .t2 .count) (omega arith)), ap length (at-copy .copy .ensures))
 
 returns : tie.Need-returns
 returns c =
-    put-path (c .before .before .before .before .before .before .before .before .args .out .now) (c .before .before .copy .last .0) (c .before .before .before .before .before .before .before .before .args .t2 .count) (omega arith) ∙ ap (λ (r : List ℕ). c .before .before .before .before .before .before .before .before .args .t2 .count ∷ r) (c .before .before .copy .ensures)
+    let at-copy = c .before .before in
+    let at-args = at-copy .before .before .before .before .before .before in
+    put-path (at-args .args .out .now) (at-copy .copy .last .0) (at-args .args .t2 .count) (omega arith) ∙ ap
+    (λ (r : List ℕ). at-args .args .t2 .count ∷ r) (at-copy .copy .ensures)
 
 pub put-path-spec : {M : Type 1} → statement M
 put-path-spec =

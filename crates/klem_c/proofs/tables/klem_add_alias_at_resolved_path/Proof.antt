@@ -1,20 +1,13 @@
-use mathlib.Core.Path.{sym, _∙_}
+-- The layer below leaves the table and says what is told of it (`edited`).
+-- Where the slices do not fit nothing is written.
 use Rattle.table.specs.Memory.{left}
+use mathlib.Core.Path.{sym, _∙_}
+use borrow.Author.Needs.{needs}
 use Rattle.klem_c.specs.Result.{one}
 use Rattle.klem_c.specs.Tables.{klemAddAliasAtResolvedPath}
-use Rattle.klem_c.proofs.Results.{three-fit, edited}
-use borrow.Author.Needs.{needs}
-use native.Mathlib.Omega.{arith}
-use borrow.Author.Needs.{needs}
+use Rattle.klem_c.proofs.Results.{edited}
 use Rattle.klem_c.proofs.tables.klem_add_alias_at_resolved_path.Statement.{statement}
 use Rattle.klem_c.proofs.tables.klem_add_alias_at_resolved_path.Tie as tie
-use Rattle.klem_c.proofs.tables.klem_add_alias_at_resolved_path.Reads as reads
-use Rattle.klem_c.proofs.tables.klem_add_alias_at_resolved_path.Lts as lts
-use Rattle.klem_c.proofs.reply.handle.Reads as handle-reads
-use Rattle.klem_c.proofs.reply.tell.Reads as tell-reads
-use Rattle.klem_c.proofs.slices.fit_three.Reads as fit-three-reads
-use Rattle.klem_c.proofs.slices.path_in.Reads as path-in-reads
-use Rattle.namespace.proofs.add_alias_at_resolved_path.Reads as add-alias-at-resolved-path-reads
 
 fit-three-requires : tie.Need-fit-three-requires
 fit-three-requires c κs = search needs
@@ -37,7 +30,9 @@ handle-requires c κs = search needs
 
 tell-requires : tie.Need-tell-requires
 tell-requires c κs =
-    c .before .before .before .before .before .before .before .before .before .before .fit-three .ensures .1 (c .before .before .before .before .before .before .before .before .before .if1 .taken) .0
+    let at-if1 = c .before .before .before .before .before .before .before .before .before in
+    let at-fit-three = at-if1 .before in
+    at-fit-three .fit-three .ensures .1 (at-if1 .if1 .taken) .0
 
 same-length : tie.Need-same-length
 same-length c = search needs
@@ -48,7 +43,16 @@ same-length-2 c = search needs
 returns : tie.Need-returns
 unfolding klemAddAliasAtResolvedPath
 returns c =
-    edited _ _ _ _ (sym (c .before .before .before .before .before .before .before .before .before .before .before .before .before .fit-three .ensures .0) ∙ c .before .before .before .before .before .before .before .before .before .before .before .before .if1 .taken) (c .before .before .tell .ensures) one (c .before .before .before .handle .ensures) (rw (c .before .before .before .before .before .before .before .before .before .before .path-in .ensures, c .before .before .before .before .before .before .before .before .before .path-in2 .ensures, c .before .before .before .before .before .before .before .before .path-in3 .ensures) at (c .before .before .before .before .before .before .before .add-alias-at-resolved-path .ensures))
+    let at-tell = c .before .before in
+    let at-handle = at-tell .before in
+    let at-add-alias-at-resolved-path = at-handle .before .before .before .before in
+    let at-path-in3 = at-add-alias-at-resolved-path .before in
+    let at-path-in2 = at-path-in3 .before in
+    let at-path-in = at-path-in2 .before in
+    let at-if1 = at-path-in .before .before in
+    let at-fit-three = at-if1 .before in
+    edited _ _ _ _ (sym (at-fit-three .fit-three .ensures .0) ∙ at-if1 .if1 .taken) (at-tell .tell .ensures) one (at-handle .handle .ensures)
+    (rw (at-path-in .path-in .ensures, at-path-in2 .path-in2 .ensures, at-path-in3 .path-in3 .ensures) at (at-add-alias-at-resolved-path .add-alias-at-resolved-path .ensures))
 
 returns-2 : tie.Need-returns-2
 unfolding klemAddAliasAtResolvedPath

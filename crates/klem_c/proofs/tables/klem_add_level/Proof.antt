@@ -1,23 +1,14 @@
+-- A type over 5 is told as 28, with the table as it was; with any other the layer below leaves the table and says what is told of it.
+-- Where the slices do not fit nothing is written.
+use Rattle.table.specs.Memory.{left}
 use mathlib.Core.Path.{refl, sym, _∙_}
 use borrow.Author.Tests.{le-leb, lt-leb}
-use Rattle.table.specs.Memory.{left}
+use borrow.Author.Needs.{needs}
 use Rattle.klem_c.specs.Result.{nothing}
 use Rattle.klem_c.specs.Tables.{klemAddLevel}
 use Rattle.klem_c.proofs.Results.{tells, edited}
-use borrow.Author.Needs.{needs}
-use native.Mathlib.Omega.{arith}
-use borrow.Author.Needs.{needs}
 use Rattle.klem_c.proofs.tables.klem_add_level.Statement.{statement}
 use Rattle.klem_c.proofs.tables.klem_add_level.Tie as tie
-use Rattle.klem_c.proofs.tables.klem_add_level.Reads as reads
-use Rattle.klem_c.proofs.tables.klem_add_level.Lts as lts
-use Rattle.klem_c.proofs.reply.edit.Reads as edit-reads
-use Rattle.klem_c.proofs.reply.tell.Reads as tell-reads
-use Rattle.klem_c.proofs.slices.fit_one.Reads as fit-one-reads
-use Rattle.klem_c.proofs.slices.path_in.Reads as path-in-reads
-use Rattle.klem_c.proofs.tables.bad_type.Reads as bad-type-reads
-use Rattle.klem_c.proofs.tables.level_type.Reads as level-type-reads
-use Rattle.namespace.proofs.add_level.Reads as add-level-reads
 
 fit-one-requires : tie.Need-fit-one-requires
 fit-one-requires c κs = search needs
@@ -35,7 +26,13 @@ same-length c = search needs
 returns : tie.Need-returns
 unfolding klemAddLevel
 returns c =
-    rw (lt-leb _ _ (c .before .before .before .before .before .if2 .taken)) (tells _ _ _ _ (sym (c .before .before .before .before .before .before .before .fit-one .ensures .0) ∙ c .before .before .before .before .before .before .if1 .taken) (c .before .before .tell .ensures) (c .before .before .before .bad-type .ensures) refl)
+    let at-tell = c .before .before in
+    let at-bad-type = at-tell .before in
+    let at-if2 = at-bad-type .before .before in
+    let at-if1 = at-if2 .before in
+    let at-fit-one = at-if1 .before in
+    rw (lt-leb _ _ (at-if2 .if2 .taken))
+    (tells _ _ _ _ (sym (at-fit-one .fit-one .ensures .0) ∙ at-if1 .if1 .taken) (at-tell .tell .ensures) (at-bad-type .bad-type .ensures) refl)
 
 path-in-requires : tie.Need-path-in-requires
 path-in-requires c κs = c .before .before .before .fit-one .ensures .1 (c .before .before .if1 .taken) .1
@@ -51,7 +48,9 @@ edit-requires c κs = search needs
 
 tell-requires-2 : tie.Need-tell-requires-2
 tell-requires-2 c κs =
-    c .before .before .before .before .before .before .before .before .before .before .fit-one .ensures .1 (c .before .before .before .before .before .before .before .before .before .if1 .taken) .0
+    let at-if1 = c .before .before .before .before .before .before .before .before .before in
+    let at-fit-one = at-if1 .before in
+    at-fit-one .fit-one .ensures .1 (at-if1 .if1 .taken) .0
 
 same-length-2 : tie.Need-same-length-2
 same-length-2 c = search needs
@@ -62,7 +61,16 @@ same-length-3 c = search needs
 returns-2 : tie.Need-returns-2
 unfolding klemAddLevel
 returns-2 c =
-    rw (le-leb _ _ (c .before .before .before .before .before .before .before .before .before .before .before .if2 .left)) (edited _ _ _ _ (sym (c .before .before .before .before .before .before .before .before .before .before .before .before .before .fit-one .ensures .0) ∙ c .before .before .before .before .before .before .before .before .before .before .before .before .if1 .taken) (c .before .before .tell2 .ensures) nothing (c .before .before .before .edit .ensures) (rw (c .before .before .before .before .before .before .before .before .before .path-in .ensures, c .before .before .before .before .before .before .before .before .level-type .ensures) at (c .before .before .before .before .before .before .before .add-level .ensures)))
+    let at-tell2 = c .before .before in
+    let at-edit = at-tell2 .before in
+    let at-add-level = at-edit .before .before .before .before in
+    let at-level-type = at-add-level .before in
+    let at-path-in = at-level-type .before in
+    let at-if2 = at-path-in .before .before in
+    let at-if1 = at-if2 .before in
+    let at-fit-one = at-if1 .before in
+    rw (le-leb _ _ (at-if2 .if2 .left))
+    (edited _ _ _ _ (sym (at-fit-one .fit-one .ensures .0) ∙ at-if1 .if1 .taken) (at-tell2 .tell2 .ensures) nothing (at-edit .edit .ensures) (rw (at-path-in .path-in .ensures, at-level-type .level-type .ensures) at (at-add-level .add-level .ensures)))
 
 returns-3 : tie.Need-returns-3
 unfolding klemAddLevel

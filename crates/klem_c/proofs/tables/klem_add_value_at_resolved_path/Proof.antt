@@ -1,20 +1,13 @@
-use mathlib.Core.Path.{sym, _∙_}
+-- The layer below leaves the table and says what is told of it (`edited`).
+-- Where the slices do not fit nothing is written.
 use Rattle.table.specs.Memory.{left}
+use mathlib.Core.Path.{sym, _∙_}
+use borrow.Author.Needs.{needs}
 use Rattle.klem_c.specs.Result.{one}
 use Rattle.klem_c.specs.Tables.{klemAddValueAtResolvedPath}
-use Rattle.klem_c.proofs.Results.{two-fit, edited}
-use borrow.Author.Needs.{needs}
-use native.Mathlib.Omega.{arith}
-use borrow.Author.Needs.{needs}
+use Rattle.klem_c.proofs.Results.{edited}
 use Rattle.klem_c.proofs.tables.klem_add_value_at_resolved_path.Statement.{statement}
 use Rattle.klem_c.proofs.tables.klem_add_value_at_resolved_path.Tie as tie
-use Rattle.klem_c.proofs.tables.klem_add_value_at_resolved_path.Reads as reads
-use Rattle.klem_c.proofs.tables.klem_add_value_at_resolved_path.Lts as lts
-use Rattle.klem_c.proofs.reply.handle.Reads as handle-reads
-use Rattle.klem_c.proofs.reply.tell.Reads as tell-reads
-use Rattle.klem_c.proofs.slices.fit_two.Reads as fit-two-reads
-use Rattle.klem_c.proofs.slices.path_in.Reads as path-in-reads
-use Rattle.namespace.proofs.add_value_at_resolved_path.Reads as add-value-at-resolved-path-reads
 
 fit-two-requires : tie.Need-fit-two-requires
 fit-two-requires c κs = search needs
@@ -33,7 +26,9 @@ handle-requires c κs = search needs
 
 tell-requires : tie.Need-tell-requires
 tell-requires c κs =
-    c .before .before .before .before .before .before .before .before .before .fit-two .ensures .1 (c .before .before .before .before .before .before .before .before .if1 .taken) .0
+    let at-if1 = c .before .before .before .before .before .before .before .before in
+    let at-fit-two = at-if1 .before in
+    at-fit-two .fit-two .ensures .1 (at-if1 .if1 .taken) .0
 
 same-length : tie.Need-same-length
 same-length c = search needs
@@ -44,7 +39,15 @@ same-length-2 c = search needs
 returns : tie.Need-returns
 unfolding klemAddValueAtResolvedPath
 returns c =
-    edited _ _ _ _ (sym (c .before .before .before .before .before .before .before .before .before .before .before .before .fit-two .ensures .0) ∙ c .before .before .before .before .before .before .before .before .before .before .before .if1 .taken) (c .before .before .tell .ensures) one (c .before .before .before .handle .ensures) (rw (c .before .before .before .before .before .before .before .before .before .path-in .ensures, c .before .before .before .before .before .before .before .before .path-in2 .ensures) at (c .before .before .before .before .before .before .before .add-value-at-resolved-path .ensures))
+    let at-tell = c .before .before in
+    let at-handle = at-tell .before in
+    let at-add-value-at-resolved-path = at-handle .before .before .before .before in
+    let at-path-in2 = at-add-value-at-resolved-path .before in
+    let at-path-in = at-path-in2 .before in
+    let at-if1 = at-path-in .before .before in
+    let at-fit-two = at-if1 .before in
+    edited _ _ _ _ (sym (at-fit-two .fit-two .ensures .0) ∙ at-if1 .if1 .taken) (at-tell .tell .ensures) one (at-handle .handle .ensures)
+    (rw (at-path-in .path-in .ensures, at-path-in2 .path-in2 .ensures) at (at-add-value-at-resolved-path .add-value-at-resolved-path .ensures))
 
 returns-2 : tie.Need-returns-2
 unfolding klemAddValueAtResolvedPath

@@ -1,20 +1,14 @@
+-- What the layer below says is told in words (`answered`).
+-- Where the slices do not fit nothing is written.
+use Rattle.table.specs.Memory.{left}
 use mathlib.Core.Path.{refl, sym, _∙_}
 use borrow.Author.Tests.{eqb-true}
-use Rattle.table.specs.Memory.{left}
+use borrow.Author.Needs.{needs}
 use Rattle.klem_c.specs.Result.{one}
 use Rattle.klem_c.specs.Tables.{klemGet}
 use Rattle.klem_c.proofs.Results.{answered}
-use borrow.Author.Needs.{needs}
-use native.Mathlib.Omega.{arith}
-use borrow.Author.Needs.{needs}
 use Rattle.klem_c.proofs.tables.klem_get.Statement.{statement}
 use Rattle.klem_c.proofs.tables.klem_get.Tie as tie
-use Rattle.klem_c.proofs.tables.klem_get.Reads as reads
-use Rattle.klem_c.proofs.tables.klem_get.Lts as lts
-use Rattle.klem_c.proofs.reply.tell.Reads as tell-reads
-use Rattle.klem_c.proofs.reply.value.Reads as value-reads
-use Rattle.klem_c.proofs.slices.fit.Reads as fit-reads
-use Rattle.namespace.proofs.get.Reads as get-reads
 
 fit-requires : tie.Need-fit-requires
 fit-requires c κs = search needs
@@ -35,7 +29,13 @@ same-length c = search needs
 returns : tie.Need-returns
 unfolding klemGet
 returns c =
-    answered _ _ _ _ (sym (c .before .before .before .before .before .before .before .fit .ensures) ∙ c .before .before .before .before .before .before .if1 .taken) (c .before .before .tell .ensures) (one) (c .before .before .before .value .ensures) (c .before .before .before .before .get .ensures) refl
+    let at-tell = c .before .before in
+    let at-value = at-tell .before in
+    let at-get = at-value .before in
+    let at-if1 = at-get .before .before in
+    let at-fit = at-if1 .before in
+    answered _ _ _ _ (sym (at-fit .fit .ensures) ∙ at-if1 .if1 .taken) (at-tell .tell .ensures) (one) (at-value .value .ensures) (at-get .get .ensures)
+    refl
 
 returns-2 : tie.Need-returns-2
 unfolding klemGet

@@ -1,20 +1,13 @@
-use mathlib.Core.Path.{refl, sym, _∙_}
+-- What the layer below says is told in words (`answered`).
+-- Where the slices do not fit nothing is written.
 use Rattle.table.specs.Memory.{left}
+use mathlib.Core.Path.{refl, sym, _∙_}
+use borrow.Author.Needs.{needs}
 use Rattle.klem_c.specs.Result.{one}
 use Rattle.klem_c.specs.Tables.{klemGetByPath}
-use Rattle.klem_c.proofs.Results.{one-fits, answered}
-use borrow.Author.Needs.{needs}
-use native.Mathlib.Omega.{arith}
-use borrow.Author.Needs.{needs}
+use Rattle.klem_c.proofs.Results.{answered}
 use Rattle.klem_c.proofs.tables.klem_get_by_path.Statement.{statement}
 use Rattle.klem_c.proofs.tables.klem_get_by_path.Tie as tie
-use Rattle.klem_c.proofs.tables.klem_get_by_path.Reads as reads
-use Rattle.klem_c.proofs.tables.klem_get_by_path.Lts as lts
-use Rattle.klem_c.proofs.reply.tell.Reads as tell-reads
-use Rattle.klem_c.proofs.reply.value.Reads as value-reads
-use Rattle.klem_c.proofs.slices.fit_one.Reads as fit-one-reads
-use Rattle.klem_c.proofs.slices.path_in.Reads as path-in-reads
-use Rattle.namespace.proofs.get_by_path.Reads as get-by-path-reads
 
 fit-one-requires : tie.Need-fit-one-requires
 fit-one-requires c κs = search needs
@@ -38,7 +31,14 @@ same-length c = search needs
 returns : tie.Need-returns
 unfolding klemGetByPath
 returns c =
-    answered _ _ _ _ (sym (c .before .before .before .before .before .before .before .before .fit-one .ensures .0) ∙ c .before .before .before .before .before .before .before .if1 .taken) (c .before .before .tell .ensures) (one) (c .before .before .before .value .ensures) (rw (c .before .before .before .before .before .path-in .ensures) at (c .before .before .before .before .get-by-path .ensures)) refl
+    let at-tell = c .before .before in
+    let at-value = at-tell .before in
+    let at-get-by-path = at-value .before in
+    let at-path-in = at-get-by-path .before in
+    let at-if1 = at-path-in .before .before in
+    let at-fit-one = at-if1 .before in
+    answered _ _ _ _ (sym (at-fit-one .fit-one .ensures .0) ∙ at-if1 .if1 .taken) (at-tell .tell .ensures) (one) (at-value .value .ensures)
+    (rw (at-path-in .path-in .ensures) at (at-get-by-path .get-by-path .ensures)) refl
 
 returns-2 : tie.Need-returns-2
 unfolding klemGetByPath

@@ -1,20 +1,14 @@
+-- The layer below leaves the table and says what is told of it (`edited`).
+-- Where the slices do not fit nothing is written.
+use Rattle.table.specs.Memory.{left}
 use mathlib.Core.Path.{sym, _∙_}
 use borrow.Author.Tests.{eqb-true}
-use Rattle.table.specs.Memory.{left}
+use borrow.Author.Needs.{needs}
 use Rattle.klem_c.specs.Result.{nothing}
 use Rattle.klem_c.specs.Tables.{klemNew}
 use Rattle.klem_c.proofs.Results.{edited}
-use borrow.Author.Needs.{needs}
-use native.Mathlib.Omega.{arith}
-use borrow.Author.Needs.{needs}
 use Rattle.klem_c.proofs.tables.klem_new.Statement.{statement}
 use Rattle.klem_c.proofs.tables.klem_new.Tie as tie
-use Rattle.klem_c.proofs.tables.klem_new.Reads as reads
-use Rattle.klem_c.proofs.tables.klem_new.Lts as lts
-use Rattle.klem_c.proofs.reply.edit.Reads as edit-reads
-use Rattle.klem_c.proofs.reply.tell.Reads as tell-reads
-use Rattle.klem_c.proofs.slices.fit.Reads as fit-reads
-use Rattle.namespace.proofs.new.Reads as new-reads
 
 fit-requires : tie.Need-fit-requires
 fit-requires c κs = search needs
@@ -27,7 +21,9 @@ edit-requires c κs = search needs
 
 tell-requires : tie.Need-tell-requires
 tell-requires c κs =
-    eqb-true _ _ (sym (c .before .before .before .before .before .before .before .fit .ensures) ∙ c .before .before .before .before .before .before .if1 .taken)
+    let at-if1 = c .before .before .before .before .before .before in
+    let at-fit = at-if1 .before in
+    eqb-true _ _ (sym (at-fit .fit .ensures) ∙ at-if1 .if1 .taken)
 
 same-length : tie.Need-same-length
 same-length c = search needs
@@ -38,7 +34,12 @@ same-length-2 c = search needs
 returns : tie.Need-returns
 unfolding klemNew
 returns c =
-    edited _ _ _ _ (sym (c .before .before .before .before .before .before .before .before .before .before .fit .ensures) ∙ c .before .before .before .before .before .before .before .before .before .if1 .taken) (c .before .before .tell .ensures) nothing (c .before .before .before .edit .ensures) (c .before .before .before .before .before .before .before .new .ensures)
+    let at-tell = c .before .before in
+    let at-edit = at-tell .before in
+    let at-new = at-edit .before .before .before .before in
+    let at-if1 = at-new .before .before in
+    let at-fit = at-if1 .before in
+    edited _ _ _ _ (sym (at-fit .fit .ensures) ∙ at-if1 .if1 .taken) (at-tell .tell .ensures) nothing (at-edit .edit .ensures) (at-new .new .ensures)
 
 returns-2 : tie.Need-returns-2
 unfolding klemNew

@@ -1,20 +1,13 @@
-use mathlib.Core.Path.{sym, _∙_}
+-- The layer below leaves the table and says what is told of it (`edited`).
+-- Where the slices do not fit nothing is written.
 use Rattle.table.specs.Memory.{left}
+use mathlib.Core.Path.{sym, _∙_}
+use borrow.Author.Needs.{needs}
 use Rattle.klem_c.specs.Result.{nothing}
 use Rattle.klem_c.specs.Tables.{klemRemoveLevel}
-use Rattle.klem_c.proofs.Results.{one-fits, edited}
-use borrow.Author.Needs.{needs}
-use native.Mathlib.Omega.{arith}
-use borrow.Author.Needs.{needs}
+use Rattle.klem_c.proofs.Results.{edited}
 use Rattle.klem_c.proofs.tables.klem_remove_level.Statement.{statement}
 use Rattle.klem_c.proofs.tables.klem_remove_level.Tie as tie
-use Rattle.klem_c.proofs.tables.klem_remove_level.Reads as reads
-use Rattle.klem_c.proofs.tables.klem_remove_level.Lts as lts
-use Rattle.klem_c.proofs.reply.edit.Reads as edit-reads
-use Rattle.klem_c.proofs.reply.tell.Reads as tell-reads
-use Rattle.klem_c.proofs.slices.fit_one.Reads as fit-one-reads
-use Rattle.klem_c.proofs.slices.path_in.Reads as path-in-reads
-use Rattle.namespace.proofs.remove_level.Reads as remove-level-reads
 
 fit-one-requires : tie.Need-fit-one-requires
 fit-one-requires c κs = search needs
@@ -30,7 +23,9 @@ edit-requires c κs = search needs
 
 tell-requires : tie.Need-tell-requires
 tell-requires c κs =
-    c .before .before .before .before .before .before .before .before .fit-one .ensures .1 (c .before .before .before .before .before .before .before .if1 .taken) .0
+    let at-if1 = c .before .before .before .before .before .before .before in
+    let at-fit-one = at-if1 .before in
+    at-fit-one .fit-one .ensures .1 (at-if1 .if1 .taken) .0
 
 same-length : tie.Need-same-length
 same-length c = search needs
@@ -41,7 +36,14 @@ same-length-2 c = search needs
 returns : tie.Need-returns
 unfolding klemRemoveLevel
 returns c =
-    edited _ _ _ _ (sym (c .before .before .before .before .before .before .before .before .before .before .before .fit-one .ensures .0) ∙ c .before .before .before .before .before .before .before .before .before .before .if1 .taken) (c .before .before .tell .ensures) nothing (c .before .before .before .edit .ensures) (rw (c .before .before .before .before .before .before .before .before .path-in .ensures) at (c .before .before .before .before .before .before .before .remove-level .ensures))
+    let at-tell = c .before .before in
+    let at-edit = at-tell .before in
+    let at-remove-level = at-edit .before .before .before .before in
+    let at-path-in = at-remove-level .before in
+    let at-if1 = at-path-in .before .before in
+    let at-fit-one = at-if1 .before in
+    edited _ _ _ _ (sym (at-fit-one .fit-one .ensures .0) ∙ at-if1 .if1 .taken) (at-tell .tell .ensures) nothing (at-edit .edit .ensures)
+    (rw (at-path-in .path-in .ensures) at (at-remove-level .remove-level .ensures))
 
 returns-2 : tie.Need-returns-2
 unfolding klemRemoveLevel

@@ -1,23 +1,16 @@
+-- The path that the layer below gives goes to `out` with its count in one byte, since it has at most 32 components; a refusal leaves `out` (`named`).
+-- Where the slices do not fit nothing is written.
+use Rattle.table.specs.Memory.{left}
+use mathlib.Core.Path.{_≡_, sym, _∙_}
+use lib.ListN.{length}
+use borrow.Author.Needs.{needs}
 use Rattle.table.specs.Limits.{limits}
 use Rattle.namespace.specs.Search.{searchCall}
 use Rattle.klem_c.specs.Paths.{pathAt}
-use mathlib.Core.Path.{_≡_, sym, _∙_}
-use lib.ListN.{length}
-use Rattle.table.specs.Memory.{left}
 use Rattle.klem_c.specs.Tables.{hitWords, klemSearch}
 use Rattle.klem_c.proofs.Results.{search-numbered, count-small, named}
-use borrow.Author.Needs.{needs}
-use native.Mathlib.Omega.{arith}
-use borrow.Author.Needs.{needs}
 use Rattle.klem_c.proofs.tables.klem_search.Statement.{statement}
 use Rattle.klem_c.proofs.tables.klem_search.Tie as tie
-use Rattle.klem_c.proofs.tables.klem_search.Reads as reads
-use Rattle.klem_c.proofs.tables.klem_search.Lts as lts
-use Rattle.klem_c.proofs.reply.found.Reads as found-reads
-use Rattle.klem_c.proofs.reply.tell_path.Reads as tell-path-reads
-use Rattle.klem_c.proofs.slices.fit_three.Reads as fit-three-reads
-use Rattle.klem_c.proofs.slices.path_in.Reads as path-in-reads
-use Rattle.namespace.proofs.search.Reads as search-reads
 
 fit-three-requires : tie.Need-fit-three-requires
 fit-three-requires c κs = search needs
@@ -37,7 +30,16 @@ found-requires c κs = search needs
 tell-path-requires : tie.Need-tell-path-requires
 tell-path-requires c κs =
     let l : length (c .before .before .before .before .search .result .name .bytes) ≡ 128 = search needs in
-    (c .before .before .before .before .before .before .before .before .fit-three .ensures .1 (c .before .before .before .before .before .before .before .if1 .taken) .1, c .before .before .before .before .before .before .before .before .fit-three .ensures .1 (c .before .before .before .before .before .before .before .if1 .taken) .0, count-small _ (searchCall limits (c .before .before .before .before .before .before .before .before .before .before .before .before .before .before .args .table .now) (pathAt (c .before .before .before .before .before .before .before .before .before .before .before .before .before .before .args .path .now)) (pathAt (c .before .before .before .before .before .before .before .before .before .before .before .before .before .before .args .scope .now))) (rw (c .before .before .before .before .before .before .path-in .ensures, c .before .before .before .before .before .path-in2 .ensures) at (c .before .before .before .before .search .ensures)) l)
+    let at-search = c .before .before .before .before in
+    let at-path-in2 = at-search .before in
+    let at-path-in = at-path-in2 .before in
+    let at-if1 = at-path-in .before in
+    let at-fit-three = at-if1 .before in
+    let at-args = at-fit-three .before .before .before .before .before .before in (
+      at-fit-three .fit-three .ensures .1 (at-if1 .if1 .taken) .1,
+      at-fit-three .fit-three .ensures .1 (at-if1 .if1 .taken) .0,
+      count-small _ (searchCall limits (at-args .args .table .now) (pathAt (at-args .args .path .now)) (pathAt (at-args .args .scope .now))) (rw (at-path-in .path-in .ensures, at-path-in2 .path-in2 .ensures) at (at-search .search .ensures)) l,
+    )
 
 same-length : tie.Need-same-length
 same-length c = search needs
@@ -48,7 +50,18 @@ same-length-2 c = search needs
 returns : tie.Need-returns
 unfolding klemSearch
 returns c =
-    named hitWords _ _ _ _ _ (sym (c .before .before .before .before .before .before .before .before .before .before .before .before .before .fit-three .ensures .0) ∙ c .before .before .before .before .before .before .before .before .before .before .before .before .if1 .taken) (c .before .before .before .before .tell-path .ensures) _ (searchCall limits (c .before .before .before .before .before .before .before .before .before .before .before .before .before .before .before .before .before .before .before .args .table .now) (pathAt (c .before .before .before .before .before .before .before .before .before .before .before .before .before .before .before .before .before .before .before .args .path .now)) (pathAt (c .before .before .before .before .before .before .before .before .before .before .before .before .before .before .before .before .before .before .before .args .scope .now))) (search-numbered (c .before .before .before .before .before .before .before .before .before .search .result .said)) (c .before .before .before .before .before .found .ensures) (rw (c .before .before .before .before .before .before .before .before .before .before .before .path-in .ensures, c .before .before .before .before .before .before .before .before .before .before .path-in2 .ensures) at (c .before .before .before .before .before .before .before .before .before .search .ensures))
+    let at-tell-path = c .before .before .before .before in
+    let at-found = at-tell-path .before in
+    let at-search = at-found .before .before .before .before in
+    let at-path-in2 = at-search .before in
+    let at-path-in = at-path-in2 .before in
+    let at-if1 = at-path-in .before in
+    let at-fit-three = at-if1 .before in
+    let at-args = at-fit-three .before .before .before .before .before .before in
+    named hitWords _ _ _ _ _ (sym (at-fit-three .fit-three .ensures .0) ∙ at-if1 .if1 .taken) (at-tell-path .tell-path .ensures) _
+    (searchCall limits (at-args .args .table .now) (pathAt (at-args .args .path .now)) (pathAt (at-args .args .scope .now)))
+    (search-numbered (at-search .search .result .said)) (at-found .found .ensures)
+    (rw (at-path-in .path-in .ensures, at-path-in2 .path-in2 .ensures) at (at-search .search .ensures))
 
 returns-2 : tie.Need-returns-2
 unfolding klemSearch

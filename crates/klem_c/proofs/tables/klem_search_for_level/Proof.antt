@@ -1,24 +1,17 @@
+-- The path that the layer below gives goes to `out` with its count in one byte, since it has at most 32 components; a refusal leaves `out` (`named`).
+-- Where the slices do not fit nothing is written.
+use Rattle.table.specs.Memory.{left}
+use mathlib.Core.Path.{_≡_, sym, _∙_}
+use lib.ListN.{length}
+use borrow.Author.Needs.{needs}
 use Rattle.table.specs.Limits.{limits}
 use Rattle.namespace.specs.Search.{levelCall}
 use Rattle.klem_c.specs.Paths.{pathAt}
-use mathlib.Core.Path.{_≡_, sym, _∙_}
-use lib.ListN.{length}
-use Rattle.table.specs.Memory.{left}
 use Rattle.klem_c.specs.Result.{one}
 use Rattle.klem_c.specs.Tables.{klemSearchForLevel}
 use Rattle.klem_c.proofs.Results.{level-numbered, count-small, named}
-use borrow.Author.Needs.{needs}
-use native.Mathlib.Omega.{arith}
-use borrow.Author.Needs.{needs}
 use Rattle.klem_c.proofs.tables.klem_search_for_level.Statement.{statement}
 use Rattle.klem_c.proofs.tables.klem_search_for_level.Tie as tie
-use Rattle.klem_c.proofs.tables.klem_search_for_level.Reads as reads
-use Rattle.klem_c.proofs.tables.klem_search_for_level.Lts as lts
-use Rattle.klem_c.proofs.reply.level.Reads as level-reads
-use Rattle.klem_c.proofs.reply.tell_path.Reads as tell-path-reads
-use Rattle.klem_c.proofs.slices.fit_three.Reads as fit-three-reads
-use Rattle.klem_c.proofs.slices.path_in.Reads as path-in-reads
-use Rattle.namespace.proofs.search_for_level.Reads as search-for-level-reads
 
 fit-three-requires : tie.Need-fit-three-requires
 fit-three-requires c κs = search needs
@@ -38,7 +31,16 @@ level-requires c κs = search needs
 tell-path-requires : tie.Need-tell-path-requires
 tell-path-requires c κs =
     let l : length (c .before .before .before .before .search-for-level .result .name .bytes) ≡ 128 = search needs in
-    (c .before .before .before .before .before .before .before .before .fit-three .ensures .1 (c .before .before .before .before .before .before .before .if1 .taken) .1, c .before .before .before .before .before .before .before .before .fit-three .ensures .1 (c .before .before .before .before .before .before .before .if1 .taken) .0, count-small _ (levelCall limits (c .before .before .before .before .before .before .before .before .before .before .before .before .before .before .args .table .now) (pathAt (c .before .before .before .before .before .before .before .before .before .before .before .before .before .before .args .path .now)) (pathAt (c .before .before .before .before .before .before .before .before .before .before .before .before .before .before .args .scope .now))) (rw (c .before .before .before .before .before .before .path-in .ensures, c .before .before .before .before .before .path-in2 .ensures) at (c .before .before .before .before .search-for-level .ensures)) l)
+    let at-search-for-level = c .before .before .before .before in
+    let at-path-in2 = at-search-for-level .before in
+    let at-path-in = at-path-in2 .before in
+    let at-if1 = at-path-in .before in
+    let at-fit-three = at-if1 .before in
+    let at-args = at-fit-three .before .before .before .before .before .before in (
+      at-fit-three .fit-three .ensures .1 (at-if1 .if1 .taken) .1,
+      at-fit-three .fit-three .ensures .1 (at-if1 .if1 .taken) .0,
+      count-small _ (levelCall limits (at-args .args .table .now) (pathAt (at-args .args .path .now)) (pathAt (at-args .args .scope .now))) (rw (at-path-in .path-in .ensures, at-path-in2 .path-in2 .ensures) at (at-search-for-level .search-for-level .ensures)) l,
+    )
 
 same-length : tie.Need-same-length
 same-length c = search needs
@@ -49,7 +51,18 @@ same-length-2 c = search needs
 returns : tie.Need-returns
 unfolding klemSearchForLevel
 returns c =
-    named one _ _ _ _ _ (sym (c .before .before .before .before .before .before .before .before .before .before .before .before .before .fit-three .ensures .0) ∙ c .before .before .before .before .before .before .before .before .before .before .before .before .if1 .taken) (c .before .before .before .before .tell-path .ensures) _ (levelCall limits (c .before .before .before .before .before .before .before .before .before .before .before .before .before .before .before .before .before .before .before .args .table .now) (pathAt (c .before .before .before .before .before .before .before .before .before .before .before .before .before .before .before .before .before .before .before .args .path .now)) (pathAt (c .before .before .before .before .before .before .before .before .before .before .before .before .before .before .before .before .before .before .before .args .scope .now))) (level-numbered (c .before .before .before .before .before .before .before .before .before .search-for-level .result .said)) (c .before .before .before .before .before .level .ensures) (rw (c .before .before .before .before .before .before .before .before .before .before .before .path-in .ensures, c .before .before .before .before .before .before .before .before .before .before .path-in2 .ensures) at (c .before .before .before .before .before .before .before .before .before .search-for-level .ensures))
+    let at-tell-path = c .before .before .before .before in
+    let at-level = at-tell-path .before in
+    let at-search-for-level = at-level .before .before .before .before in
+    let at-path-in2 = at-search-for-level .before in
+    let at-path-in = at-path-in2 .before in
+    let at-if1 = at-path-in .before in
+    let at-fit-three = at-if1 .before in
+    let at-args = at-fit-three .before .before .before .before .before .before in
+    named one _ _ _ _ _ (sym (at-fit-three .fit-three .ensures .0) ∙ at-if1 .if1 .taken) (at-tell-path .tell-path .ensures) _
+    (levelCall limits (at-args .args .table .now) (pathAt (at-args .args .path .now)) (pathAt (at-args .args .scope .now)))
+    (level-numbered (at-search-for-level .search-for-level .result .said)) (at-level .level .ensures)
+    (rw (at-path-in .path-in .ensures, at-path-in2 .path-in2 .ensures) at (at-search-for-level .search-for-level .ensures))
 
 returns-2 : tie.Need-returns-2
 unfolding klemSearchForLevel
