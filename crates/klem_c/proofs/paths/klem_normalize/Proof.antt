@@ -1,0 +1,79 @@
+-- The path that the layer below gives goes to `out` with its count in one byte, since it has at most 32 components; a refusal leaves `out` (`named`).
+-- Where the slices do not fit nothing is written.
+use Rattle.table.specs.Memory.{left}
+use mathlib.Core.Path.{_≡_, sym, _∙_}
+use lib.ListN.{length}
+use borrow.Author.Needs.{needs}
+use Rattle.pkg_length.specs.Refusal.{andThen}
+use Rattle.name_object.specs.Component.{componentLimit}
+use Rattle.name_object.specs.Memory.{pathIn}
+use Rattle.path.specs.Normal.{alone, normal}
+use Rattle.klem_c.specs.Paths.{pathAt, klemNormalize}
+use Rattle.klem_c.specs.Result.{nothing}
+use Rattle.klem_c.proofs.Results.{path-numbered, count-small, named}
+use Rattle.klem_c.proofs.paths.klem_normalize.Statement.{statement}
+use Rattle.klem_c.proofs.paths.klem_normalize.Tie as tie
+
+fit-two-requires : tie.Need-fit-two-requires
+fit-two-requires c κs = search needs
+
+path-in-requires : tie.Need-path-in-requires
+path-in-requires c κs = c .before .fit-two .ensures .1 (c .if1 .taken) .2
+
+normalize-requires : tie.Need-normalize-requires
+normalize-requires c κs = search needs
+
+path-requires : tie.Need-path-requires
+path-requires c κs = search needs
+
+tell-path-requires : tie.Need-tell-path-requires
+tell-path-requires c κs =
+    let l : length (c .before .before .before .before .normalize .result .name .bytes) ≡ 128 = search needs in
+    let at-normalize = c .before .before .before .before in
+    let at-path-in = at-normalize .before in
+    let at-if1 = at-path-in .before in
+    let at-fit-two = at-if1 .before in
+    let at-args = at-fit-two .before .before .before .before in (
+      at-fit-two .fit-two .ensures .1 (at-if1 .if1 .taken) .1,
+      at-fit-two .fit-two .ensures .1 (at-if1 .if1 .taken) .0,
+      count-small _ (alone (andThen (pathIn componentLimit (pathAt (at-args .args .path .now))) (normal componentLimit))) (rw (at-path-in .path-in .ensures) at (at-normalize .normalize .ensures)) l,
+    )
+
+same-length : tie.Need-same-length
+same-length c = search needs
+
+same-length-2 : tie.Need-same-length-2
+same-length-2 c = search needs
+
+returns : tie.Need-returns
+unfolding klemNormalize
+returns c =
+    let at-tell-path = c .before .before .before .before in
+    let at-path = at-tell-path .before in
+    let at-normalize = at-path .before .before .before .before in
+    let at-path-in = at-normalize .before in
+    let at-if1 = at-path-in .before in
+    let at-fit-two = at-if1 .before in
+    let at-args = at-fit-two .before .before .before .before in
+    named nothing _ _ _ _ _ (sym (at-fit-two .fit-two .ensures .0) ∙ at-if1 .if1 .taken) (at-tell-path .tell-path .ensures) _
+    (alone (andThen (pathIn componentLimit (pathAt (at-args .args .path .now))) (normal componentLimit)))
+    (path-numbered (at-normalize .normalize .result .said)) (at-path .path .ensures)
+    (rw (at-path-in .path-in .ensures) at (at-normalize .normalize .ensures))
+
+returns-2 : tie.Need-returns-2
+unfolding klemNormalize
+returns-2 c = rw (sym (c .before .fit-two .ensures .0) ∙ c .if1 .left)
+
+pub klem-normalize-spec : {M : Type 1} → statement M
+klem-normalize-spec =
+    tie.close
+    (tie.spec
+    fit-two-requires
+    path-in-requires
+    normalize-requires
+    path-requires
+    tell-path-requires
+    same-length
+    same-length-2
+    returns
+    returns-2)

@@ -1,0 +1,58 @@
+-- What the layer below says is told in words (`answered`).
+-- Where the slices do not fit nothing is written.
+use Rattle.table.specs.Memory.{left}
+use mathlib.Core.Path.{refl, sym, _∙_}
+use borrow.Author.Needs.{needs}
+use Rattle.klem_c.specs.Result.{one}
+use Rattle.klem_c.specs.Tables.{klemGetHandle}
+use Rattle.klem_c.proofs.Results.{answered}
+use Rattle.klem_c.proofs.tables.klem_get_handle.Statement.{statement}
+use Rattle.klem_c.proofs.tables.klem_get_handle.Tie as tie
+
+fit-one-requires : tie.Need-fit-one-requires
+fit-one-requires c κs = search needs
+
+path-in-requires : tie.Need-path-in-requires
+path-in-requires c κs = c .before .before .fit-one .ensures .1 (c .before .if1 .taken) .1
+
+get-handle-requires : tie.Need-get-handle-requires
+get-handle-requires c κs = search needs
+
+handle-requires : tie.Need-handle-requires
+handle-requires c κs = search needs
+
+tell-requires : tie.Need-tell-requires
+tell-requires c κs =
+    c .before .before .before .before .before .fit-one .ensures .1 (c .before .before .before .before .if1 .taken) .0
+
+same-length : tie.Need-same-length
+same-length c = search needs
+
+returns : tie.Need-returns
+unfolding klemGetHandle
+returns c =
+    let at-tell = c .before .before in
+    let at-handle = at-tell .before in
+    let at-get-handle = at-handle .before in
+    let at-path-in = at-get-handle .before in
+    let at-if1 = at-path-in .before .before in
+    let at-fit-one = at-if1 .before in
+    answered _ _ _ _ (sym (at-fit-one .fit-one .ensures .0) ∙ at-if1 .if1 .taken) (at-tell .tell .ensures) (one) (at-handle .handle .ensures)
+    (rw (at-path-in .path-in .ensures) at (at-get-handle .get-handle .ensures)) refl
+
+returns-2 : tie.Need-returns-2
+unfolding klemGetHandle
+returns-2 c = rw (sym (c .before .fit-one .ensures .0) ∙ c .if1 .left)
+
+pub klem-get-handle-spec : {M : Type 1} → statement M
+klem-get-handle-spec =
+    tie.close
+    (tie.spec
+    fit-one-requires
+    path-in-requires
+    get-handle-requires
+    handle-requires
+    tell-requires
+    same-length
+    returns
+    returns-2)

@@ -1,0 +1,42 @@
+-- A frame as KLEM_FRAME words: 15 flags, 0 where the cell is unset, then 15 numbers; and the calls on it.
+use Prim.Native.Nat.{ℕ}
+use mathlib.Core.Bool.{Bool, _&&_, not}
+use mathlib.Core.List.{List, [], _++_, map}
+use lib.Dec.{eqb}
+use lib.ListN.{take, drop}
+use Rattle.pkg_length.specs.Refusal.{gives}
+use Rattle.statement.specs.Grammar.{cells}
+use Rattle.statement.specs.Frames.{fresh, held, wrote}
+use Rattle.statement.specs.declared.frame.Frame.{Frame}
+use Rattle.klem_c.specs.Result.{resultWords, resultOf, valued, one, flag, sized, After, leaves, answers}
+
+abbrev pub frameSize : ℕ
+frameSize = 30
+
+abbrev pub isSet : ℕ → Bool
+isSet w = not (eqb w 0)
+
+unfoldable pub flagsAt : List ℕ → List Bool
+flagsAt ws = map isSet (take cells ws)
+
+abbrev pub frameAt : List ℕ → Frame
+frameAt ws = record { set = flagsAt ws; val = drop cells ws }
+
+unfoldable pub frameWords : Frame → List ℕ
+frameWords f = map flag (f .set) ++ f .val
+
+abbrev pub fitsFrame : List ℕ → List ℕ → Bool
+fitsFrame result frame = sized resultWords result && sized frameSize frame
+
+-- a call that writes a frame
+abbrev pub frames : List ℕ → List ℕ → List ℕ → Frame → After
+frames result frame words f = leaves (fitsFrame result frame) result frame words (frameWords f)
+
+unfoldable pub klemFrameNew : List ℕ → List ℕ → After
+klemFrameNew frame result = frames result frame (resultOf (gives [])) fresh
+
+unfoldable pub klemFrameGet : List ℕ → ℕ → List ℕ → After
+klemFrameGet frame cell result = answers (fitsFrame result frame) result (valued one (held (frameAt frame) cell))
+
+unfoldable pub klemFrameWith : List ℕ → ℕ → ℕ → List ℕ → After
+klemFrameWith frame cell number result = frames result frame (resultOf (gives [])) (wrote (frameAt frame) cell number)

@@ -1,0 +1,249 @@
+// What a result says, and its eight words.
+ghost use mathlib.Core.Path.{_≡_};
+ghost use mathlib.Core.Bool.{_&&_};
+ghost use mathlib.Core.List.{[], _∷_};
+ghost use Prim.Native.Nat.{_<_};
+ghost use lib.Dec.{eqb};
+ghost use lib.ListN.{length};
+ghost use Rattle.pkg_length.specs.Refusal.{pick, gives, refused};
+ghost use Rattle.pkg_length.specs.Pkg.{rawSaid, lengthSaid, pkgSaid};
+ghost use Rattle.name_object.specs.Name.{nameSaid};
+ghost use Rattle.path.specs.Normal.{pathSaid, flagSaid};
+ghost use Rattle.path.specs.Text.{textSaid};
+ghost use Rattle.namespace.specs.Calls.{editSaid, valueSaid, handleSaid};
+ghost use Rattle.namespace.specs.Search.{searchSaid, levelSaid};
+ghost use Rattle.statement.specs.Frames.{cellSaid};
+ghost use Rattle.statement.specs.Promise.{checkSaid, endSaid};
+ghost use Rattle.klem_c.specs.Result.{resultWords, resultOf, valued, nothing, one, flag, wordsOf};
+ghost use Rattle.klem_c.specs.Paths.{pathSize, pathBytes};
+ghost use Rattle.klem_c.specs.Lengths.{rawWords, lengthWords, pkgWords};
+ghost use Rattle.klem_c.specs.Tables.{hitWords};
+ghost use Rattle.klem_c.specs.Blocks.{runWords};
+use crate::slices;
+use name_object::AmlName;
+use name_object::NameSaid;
+use namespace::EditAnswer;
+use namespace::HandleAnswer;
+use namespace::LevelSaid;
+use namespace::SearchSaid;
+use namespace::ValueAnswer;
+use path::FlagAnswer;
+use path::PathSaid;
+use path::TextAnswer;
+use pkg_length::AmlError;
+use pkg_length::LengthAnswer;
+use pkg_length::PkgAnswer;
+use pkg_length::RawAnswer;
+use statement::CheckAnswer;
+use statement::End;
+use statement::frame::CellAnswer;
+
+// A refusal's number and place, or 0, 0 and up to three values.
+pub struct Reply {
+    pub number: u64,
+    pub place: u64,
+    pub first: u64,
+    pub second: u64,
+    pub third: u64,
+}
+
+// Writes the result, and gives its first word.
+pub(crate) fn tell(result: &mut [u64], reply: Reply) -> u64
+    requires { ⌜ length (now result) ≡ resultWords ⌝ }
+    ensures { λ r. ⌜ (r ≡ reply .number) × (now (result .exit) ≡ wordsOf reply) ⌝ }
+{
+    result[0] = reply.number;
+    result[1] = reply.place;
+    result[2] = reply.first;
+    result[3] = reply.second;
+    result[4] = reply.third;
+    result[5] = 0;
+    result[6] = 0;
+    result[7] = 0;
+    reply.number
+}
+
+// The same, and the path to `out` where there is one.
+pub(crate) fn tell_path(out: &mut [u8], result: &mut [u64], name: AmlName, reply: Reply) -> u64
+    requires { ⌜ (length (now out) ≡ pathSize) × (length (now result) ≡ resultWords) × (name .count < 256) ⌝ }
+    ensures { λ r. ⌜ (r ≡ reply .number) × (now (result .exit) ≡ wordsOf reply) × (now (out .exit) ≡ pick (eqb (reply .number) 0) (pathBytes name) (now (out .entry))) ⌝ }
+{
+    if reply.number == 0 {
+        slices::put_path(out, name);
+        return tell(result, reply);
+    }
+    tell(result, reply)
+}
+
+pub(crate) fn refusal(e: AmlError) -> Reply
+    ensures { λ r. ⌜ wordsOf r ≡ resultOf (refused e) ⌝ }
+{
+    let n = e.numbered();
+    Reply {
+        number: n.0 as u64,
+        place: n.1 as u64,
+        first: 0,
+        second: 0,
+        third: 0,
+    }
+}
+
+pub(crate) fn given(first: u64, second: u64, third: u64) -> Reply
+    ensures { λ r. ⌜ r ≡ record { number = 0; place = 0; first = first; second = second; third = third } ⌝ }
+{
+    Reply {
+        number: 0,
+        place: 0,
+        first,
+        second,
+        third,
+    }
+}
+
+pub(crate) fn raw(a: RawAnswer) -> Reply
+    ensures { λ r. ⌜ wordsOf r ≡ resultOf (valued rawWords (rawSaid a)) ⌝ }
+{
+    match a {
+        RawAnswer::Raw(raw, used) => given(raw as u64, used as u64, 0),
+        RawAnswer::Refused(e) => refusal(e),
+    }
+}
+
+pub(crate) fn fitted(a: LengthAnswer) -> Reply
+    ensures { λ r. ⌜ wordsOf r ≡ resultOf (valued lengthWords (lengthSaid a)) ⌝ }
+{
+    match a {
+        LengthAnswer::Length(l) => given(l.raw_length as u64, l.end_offset as u64, 0),
+        LengthAnswer::Refused(e) => refusal(e),
+    }
+}
+
+pub(crate) fn pkg(a: PkgAnswer) -> Reply
+    ensures { λ r. ⌜ wordsOf r ≡ resultOf (valued pkgWords (pkgSaid a)) ⌝ }
+{
+    match a {
+        PkgAnswer::Read(l, used) => given(l.raw_length as u64, l.end_offset as u64, used as u64),
+        PkgAnswer::Refused(e) => refusal(e),
+    }
+}
+
+pub(crate) fn name(a: NameSaid) -> Reply
+    ensures { λ r. ⌜ wordsOf r ≡ resultOf (valued one (nameSaid a)) ⌝ }
+{
+    match a {
+        NameSaid::Used(used) => given(used as u64, 0, 0),
+        NameSaid::Refused(e) => refusal(e),
+    }
+}
+
+pub(crate) fn path(a: PathSaid) -> Reply
+    ensures { λ r. ⌜ wordsOf r ≡ resultOf (valued nothing (pathSaid a)) ⌝ }
+{
+    match a {
+        PathSaid::Done => given(0, 0, 0),
+        PathSaid::Refused(e) => refusal(e),
+    }
+}
+
+pub(crate) fn test(a: FlagAnswer) -> Reply
+    ensures { λ r. ⌜ wordsOf r ≡ resultOf (valued (λ b. one (flag b)) (flagSaid a)) ⌝ }
+{
+    match a {
+        FlagAnswer::Is(b) => given(b as u64, 0, 0),
+        FlagAnswer::Refused(e) => refusal(e),
+    }
+}
+
+pub(crate) fn text(a: TextAnswer) -> Reply
+    ensures { λ r. ⌜ wordsOf r ≡ resultOf (valued one (textSaid a)) ⌝ }
+{
+    match a {
+        TextAnswer::Length(n) => given(n as u64, 0, 0),
+        TextAnswer::Refused(e) => refusal(e),
+    }
+}
+
+pub(crate) fn edit(a: EditAnswer) -> Reply
+    ensures { λ r. ⌜ wordsOf r ≡ resultOf (valued nothing (editSaid a)) ⌝ }
+{
+    match a {
+        EditAnswer::Done => given(0, 0, 0),
+        EditAnswer::Refused(e) => refusal(e),
+    }
+}
+
+pub(crate) fn value(a: ValueAnswer) -> Reply
+    ensures { λ r. ⌜ wordsOf r ≡ resultOf (valued one (valueSaid a)) ⌝ }
+{
+    match a {
+        ValueAnswer::Value(v) => given(v, 0, 0),
+        ValueAnswer::Refused(e) => refusal(e),
+    }
+}
+
+pub(crate) fn handle(a: HandleAnswer) -> Reply
+    ensures { λ r. ⌜ wordsOf r ≡ resultOf (valued one (handleSaid a)) ⌝ }
+{
+    match a {
+        HandleAnswer::Handle(h) => given(h.0 as u64, 0, 0),
+        HandleAnswer::Refused(e) => refusal(e),
+    }
+}
+
+pub(crate) fn found(a: SearchSaid) -> Reply
+    ensures { λ r. ⌜ wordsOf r ≡ resultOf (valued hitWords (searchSaid a)) ⌝ }
+{
+    match a {
+        SearchSaid::Found(h, asked) => given(h.0 as u64, asked as u64, 0),
+        SearchSaid::Refused(e) => refusal(e),
+    }
+}
+
+pub(crate) fn level(a: LevelSaid) -> Reply
+    ensures { λ r. ⌜ wordsOf r ≡ resultOf (valued one (levelSaid a)) ⌝ }
+{
+    match a {
+        LevelSaid::At(asked) => given(asked as u64, 0, 0),
+        LevelSaid::Refused(e) => refusal(e),
+    }
+}
+
+pub(crate) fn cell(a: CellAnswer) -> Reply
+    ensures { λ r. ⌜ wordsOf r ≡ resultOf (valued one (cellSaid a)) ⌝ }
+{
+    match a {
+        CellAnswer::Number(n) => given(n, 0, 0),
+        CellAnswer::Refused(e) => refusal(e),
+    }
+}
+
+pub(crate) fn verdict(a: CheckAnswer) -> Reply
+    ensures { λ r. ⌜ wordsOf r ≡ resultOf (valued nothing (checkSaid a)) ⌝ }
+{
+    match a {
+        CheckAnswer::Accepted => given(0, 0, 0),
+        CheckAnswer::Refused(e) => refusal(e),
+    }
+}
+
+// How a run ended, with its units.
+pub(crate) fn end(a: End, units: u64) -> Reply
+    ensures { λ r. ⌜ wordsOf r ≡ runWords (endSaid a) units ⌝ }
+{
+    match a {
+        End::Finished => given(0, 0, units),
+        End::Returned(n) => given(1, n, units),
+        End::BreakOut => given(2, 0, units),
+        End::ContinueOut => given(3, 0, units),
+        End::Refused(e) => {
+            let n = e.numbered();
+            Reply {
+                number: n.0 as u64,
+                place: n.1 as u64,
+                first: 0,
+                second: 0,
+                third: units,
+            }
+        }
+    }
+}
