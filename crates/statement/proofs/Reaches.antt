@@ -9,7 +9,7 @@ use lib.Dec.{leb, eqb}
 use lib.ListN.{length, take, drop, getD, length-drop, drop-of-length-le}
 use lib.Seq.{drop-cons, drop-drop, drop-nil, take-all}
 use borrow.Author.Tests.{le-leb, lt-leb, ne-eqb, leb-true, leb-false}
-use Rattle.pkg_length.specs.Refusal.{Answer, gives, refuses, andThen, pick, blockLimit}
+use Rattle.pkg_length.specs.Refusal.{Answer, gives, refuses, andThen, pick, refused, blockLimit}
 use Rattle.pkg_length.specs.Little.{little}
 use Rattle.pkg_length.specs.declared.PkgLength.{PkgLength}
 use Rattle.pkg_length.specs.Pkg.{Raw, Pkg, spelt, rawLength, fromRaw, pkgLength}
@@ -22,12 +22,37 @@ use Rattle.statement.specs.Opcode.{isCell, termOp, stmtOp, expression}
 use Rattle.statement.specs.Reading.{to, Term, Stmt, expr, Stmts, cons}
 use Rattle.statement.specs.Grammar.{depthLimit}
 use Rattle.statement.specs.Refusal.{Read, read, reads, thenRead, readBytes, readCell, readDest, operand, before, readOne, readTwo, termBy, readTerm, moved, readPackage, Head, head, ifOf, readExpr, readHead, readElse, readIf, stmtBy, listBy, readStmt, readList}
-use Rattle.statement.specs.Said.{upTo}
+use Rattle.statement.specs.declared.term.Reach.{Reach}
+use Rattle.statement.specs.declared.read.Package.{Package}
+use Rattle.statement.specs.Said.{«NEXT», refusalOf, reached, packed, upTo}
 use Rattle.statement.specs.Lent.{Accepts}
 use Rattle.statement.proofs.Answers.{Takes}
 use Rattle.statement.proofs.Spelling.{Packs, package-sound}
 use Rattle.statement.proofs.Terms.{term-sound}
 use Rattle.statement.proofs.Statements.{stmt-sound, head-sound, lists-sound}
+
+-- ## What the code's answers say
+
+pub goes-on : (r : Reach) → r .0 ≡ «NEXT» → reached r ≡ gives (r .1)
+goes-on r e = rw e
+
+pub stands : (r : Reach) → (r .0 ≡ «NEXT» → ⊥) → reached r ≡ refused (refusalOf r)
+stands r ne = rw (ne-eqb (r .0) «NEXT» ne)
+
+-- a refusal is handed on as it is
+pub stop : (r : Reach) → (r .0 ≡ «NEXT» → ⊥) → {X Y : Answer ℕ} → ((c p : ℕ) → refuses c p ≡ X → refuses c p ≡ Y) → reached r ≡ X → reached r ≡ Y
+stop r ne f e = stands r ne ∙ f _ _ (sym (stands r ne) ∙ e)
+
+-- the same of a package
+module _ (w : Package) where
+  pub package-goes-on : w .0 .0 ≡ «NEXT» → packed w ≡ gives (record { raw = w .0 .1; used = w .1 })
+  package-goes-on e = rw e
+
+  package-stands : (w .0 .0 ≡ «NEXT» → ⊥) → packed w ≡ refused (refusalOf (w .0))
+  package-stands ne = rw (ne-eqb (w .0 .0) «NEXT» ne)
+
+  pub package-stop : (w .0 .0 ≡ «NEXT» → ⊥) → {X : Answer Raw} {Y : Answer ℕ} → ((c p : ℕ) → refuses c p ≡ X → refuses c p ≡ Y) → packed w ≡ X → reached (w .0) ≡ Y
+  package-stop ne f e = stands (w .0) ne ∙ f _ _ (sym (package-stands ne) ∙ e)
 
 -- ## What an answer says of the reading
 
@@ -378,6 +403,10 @@ pub package-in : (p at : ℕ) (s : List ℕ) (n u : ℕ) → gives (record { raw
 package-in p at s n u e h =
     let k : Packs (drop at s) (record { raw = n; used = u }) = package-sound p (drop at s) _ (sym e) in
     (k .holds, k .own-in, omega (arith, k .within, length-drop at s))
+
+pub package-within : (w : Package) → w .0 .0 ≡ «NEXT» → (p at : ℕ) (s : List ℕ) → packed w ≡ readPackage p (drop at s) → at ≤ length s →
+    (0 < w .1) × (w .1 ≤ w .0 .1) × (at + w .0 .1 ≤ length s)
+package-within w e p at s f h = package-in p at s (w .0 .1) (w .1) (sym (package-goes-on w e) ∙ f) h
 
 module _ (l b at : ℕ) (s : List ℕ) where
   abbrev read-head : Answer (Read Head)

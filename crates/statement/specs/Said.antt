@@ -1,13 +1,42 @@
 -- What the answers of reading say: how far it went, or the refusal.
 use Prim.Native.Nat.{ℕ, _+_}
-use Rattle.pkg_length.specs.Refusal.{Answer, gives, refuses, refused}
+use lib.Dec.{eqb}
+use Rattle.pkg_length.specs.declared.AmlError.{AmlError}
+use Rattle.pkg_length.specs.declared.AmlError.the-variants.{UnexpectedEndOfStream, InvalidPkgLength, BadOpcode, TooDeep}
+use Rattle.pkg_length.specs.Refusal.{Answer, gives, refuses, andThen, pick, refused}
+use Rattle.pkg_length.specs.Pkg.{Raw}
 use Rattle.statement.specs.declared.term.Reach.{Reach}
-use Rattle.statement.specs.declared.term.Reach.the-variants.{Next, Refused}
+use Rattle.statement.specs.declared.read.Package.{Package}
 use Rattle.statement.specs.Refusal.{Read, read}
 
+-- what reading says, in the code's names: that it goes on, or one of the refusals; what has no name here is too deep
+abbrev pub «NEXT» : ℕ
+«NEXT» = 0
+
+abbrev pub «UNEXPECTED_END» : ℕ
+«UNEXPECTED_END» = 1
+
+abbrev pub «INVALID_LENGTH» : ℕ
+«INVALID_LENGTH» = 2
+
+abbrev pub «BAD_OPCODE» : ℕ
+«BAD_OPCODE» = 3
+
+abbrev pub refusalOf : Reach → AmlError
+refusalOf r =
+    pick (eqb (r .0) «UNEXPECTED_END»)
+    (UnexpectedEndOfStream (r .1))
+    (pick (eqb (r .0) «INVALID_LENGTH»)
+    (InvalidPkgLength (r .1))
+    (pick (eqb (r .0) «BAD_OPCODE») (BadOpcode (r .1)) (TooDeep (r .1))))
+
+-- how far reading went, or the refusal and its place
 abbrev pub reached : Reach → Answer ℕ
-reached (Next n) = gives n
-reached (Refused e) = refused e
+reached r = pick (eqb (r .0) «NEXT») (gives (r .1)) (refused (refusalOf r))
+
+-- a raw length, and how many bytes spell it
+abbrev pub packed : Package → Answer Raw
+packed w = andThen (reached (w .0)) (λ n. gives (record { raw = n; used = w .1 }))
 
 -- read from `at` on: the place after it
 abbrev pub upTo : {A : Type 0} → ℕ → Answer (Read A) → Answer ℕ

@@ -1,7 +1,6 @@
 // Control blocks (statement.rs): the check of a block, and its run.
 use crate::exec::Out;
 use crate::frame::Frame;
-use crate::term::Reach;
 use pkg_length::AmlError;
 ghost use mathlib.Core.Path.{_≡_};
 ghost use Rattle.statement.specs.Lent.{outSaid};
@@ -28,10 +27,10 @@ pub fn check(block: &[u8]) -> CheckAnswer
         return CheckAnswer::Refused(AmlError::BlockTooLong);
     }
     let r = read::term_list(block, 0, 16);
-    match r {
-        Reach::Next(_) => CheckAnswer::Accepted,
-        Reach::Refused(e) => CheckAnswer::Refused(e),
+    if r.0 == term::NEXT {
+        return CheckAnswer::Accepted;
     }
+    CheckAnswer::Refused(term::refusal(r))
 }
 
 // How a run ended.

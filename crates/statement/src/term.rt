@@ -9,11 +9,33 @@ ghost use Prim.Native.Nat.{_+_, _≤_};
 ghost use lib.ListN.{length, drop};
 ghost use Rattle.pkg_length.specs.Refusal.{blockLimit};
 ghost use Rattle.statement.specs.Refusal.{readBytes, readCell, readDest, readOne, readTwo, readTerm};
-ghost use Rattle.statement.specs.Said.{reached, upTo};
+ghost use Rattle.statement.specs.Said.{refusalOf, reached, upTo};
 
-pub enum Reach {
-    Next(usize),
-    Refused(AmlError),
+// What is said, and a place: NEXT, and where reading goes on; or a refusal, and its place. Two numbers, since an enum here makes the check twice as slow.
+pub struct Reach(pub usize, pub usize);
+
+pub const NEXT: usize = 0;
+
+pub const UNEXPECTED_END: usize = 1;
+
+pub const INVALID_LENGTH: usize = 2;
+
+pub const BAD_OPCODE: usize = 3;
+
+pub const TOO_DEEP: usize = 4;
+
+// The refusal of an answer that is not NEXT.
+pub(crate) fn refusal(r: Reach) -> AmlError
+    ensures { λ e. ⌜ e ≡ refusalOf r ⌝ }
+{
+    let said = r.0;
+    let at = r.1;
+    match said {
+        UNEXPECTED_END => AmlError::UnexpectedEndOfStream(at),
+        INVALID_LENGTH => AmlError::InvalidPkgLength(at),
+        BAD_OPCODE => AmlError::BadOpcode(at),
+        _ => AmlError::TooDeep(at),
+    }
 }
 
 // A constant's n bytes.
@@ -22,9 +44,9 @@ fn bytes(part: &[u8], base: usize, at: usize, n: usize) -> Reach
     ensures { λ r. ⌜ reached r ≡ upTo at (readBytes n (base + at) (drop at (now (part .entry)))) ⌝ }
 {
     if part.len() - at < n {
-        return Reach::Refused(AmlError::UnexpectedEndOfStream(base + part.len()));
+        return Reach(UNEXPECTED_END, base + part.len());
     }
-    Reach::Next(at + n)
+    Reach(NEXT, at + n)
 }
 
 // A written cell.
@@ -33,12 +55,12 @@ fn cell(part: &[u8], base: usize, at: usize) -> Reach
     ensures { λ r. ⌜ reached r ≡ upTo at (readCell (base + at) (drop at (now (part .entry)))) ⌝ }
 {
     if part.len() <= at {
-        return Reach::Refused(AmlError::UnexpectedEndOfStream(base + at));
+        return Reach(UNEXPECTED_END, base + at);
     }
     if opcode::is_cell(part[at]) {
-        Reach::Next(at + 1)
+        Reach(NEXT, at + 1)
     } else {
-        Reach::Refused(AmlError::BadOpcode(base + at))
+        Reach(BAD_OPCODE, base + at)
     }
 }
 
@@ -48,7 +70,7 @@ fn dest(part: &[u8], base: usize, at: usize, d: Dest) -> Reach
     ensures { λ r. ⌜ reached r ≡ upTo at (readDest d (base + at) (drop at (now (part .entry)))) ⌝ }
 {
     match d {
-        Dest::Nowhere => Reach::Next(at),
+        Dest::Nowhere => Reach(NEXT, at),
         Dest::ToCell => cell(part, base, at),
         Dest::ToTarget => target(part, base, at),
     }
@@ -59,10 +81,10 @@ fn target(part: &[u8], base: usize, at: usize) -> Reach
     ensures { λ r. ⌜ reached r ≡ upTo at (readDest Dest.ToTarget (base + at) (drop at (now (part .entry)))) ⌝ }
 {
     if part.len() <= at {
-        return Reach::Refused(AmlError::UnexpectedEndOfStream(base + at));
+        return Reach(UNEXPECTED_END, base + at);
     }
     if part[at] == opcode::NULL_NAME {
-        return Reach::Next(at + 1);
+        return Reach(NEXT, at + 1);
     }
     cell(part, base, at)
 }
@@ -72,21 +94,21 @@ pub(crate) fn term_arg(part: &[u8], base: usize, at: usize, left: usize) -> Reac
     ensures { λ r. ⌜ reached r ≡ upTo at (readTerm left (base + at) (drop at (now (part .entry)))) ⌝ }
 {
     if left == 0 {
-        return Reach::Refused(AmlError::TooDeep(base + at));
+        return Reach(TOO_DEEP, base + at);
     }
     if part.len() <= at {
-        return Reach::Refused(AmlError::UnexpectedEndOfStream(base + at));
+        return Reach(UNEXPECTED_END, base + at);
     }
     let op = opcode::term_op(part[at]);
     match op {
-        TermOp::Constant(_) => Reach::Next(at + 1),
-        TermOp::Ones => Reach::Next(at + 1),
+        TermOp::Constant(_) => Reach(NEXT, at + 1),
+        TermOp::Ones => Reach(NEXT, at + 1),
         TermOp::Bytes(n) => bytes(part, base, at + 1, n),
-        TermOp::Cell(_) => Reach::Next(at + 1),
+        TermOp::Cell(_) => Reach(NEXT, at + 1),
         TermOp::Step(_) => cell(part, base, at + 1),
         TermOp::One(_, d) => one(part, base, at + 1, left - 1, d),
         TermOp::Two(_, d) => two(part, base, at + 1, left - 1, d),
-        TermOp::BadTerm => Reach::Refused(AmlError::BadOpcode(base + at)),
+        TermOp::BadTerm => Reach(BAD_OPCODE, base + at),
     }
 }
 
@@ -96,10 +118,10 @@ fn one(part: &[u8], base: usize, at: usize, left: usize, d: Dest) -> Reach
     ensures { λ r. ⌜ reached r ≡ upTo at (readOne (readTerm left) d (base + at) (drop at (now (part .entry)))) ⌝ }
 {
     let r = term_arg(part, base, at, left);
-    match r {
-        Reach::Refused(_) => r,
-        Reach::Next(next) => dest(part, base, next, d),
+    if r.0 != NEXT {
+        return r;
     }
+    dest(part, base, r.1, d)
 }
 
 // An operand before that.
@@ -108,8 +130,8 @@ fn two(part: &[u8], base: usize, at: usize, left: usize, d: Dest) -> Reach
     ensures { λ r. ⌜ reached r ≡ upTo at (readTwo (readTerm left) d (base + at) (drop at (now (part .entry)))) ⌝ }
 {
     let r = term_arg(part, base, at, left);
-    match r {
-        Reach::Refused(_) => r,
-        Reach::Next(next) => one(part, base, next, left, d),
+    if r.0 != NEXT {
+        return r;
     }
+    one(part, base, r.1, left, d)
 }

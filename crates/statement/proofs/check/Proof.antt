@@ -1,6 +1,9 @@
 -- Each return is what the reading of the whole block says: too long, read to its end, or refused on the way.
 use mathlib.Core.Path.{sym, _∙_, ap}
-use Rattle.statement.specs.Said.{reached}
+use Rattle.pkg_length.specs.declared.AmlError.{AmlError}
+use Rattle.statement.specs.declared.CheckAnswer.{CheckAnswer}
+use Rattle.statement.specs.Promise.{checkSaid}
+use Rattle.statement.proofs.Reaches.{goes-on, stands}
 use Rattle.statement.proofs.Theorems.{check-accepts-exactly, too-long, all-read, not-read}
 use borrow.Author.Needs.{needs}
 use Rattle.statement.proofs.check.Statement.{statement}
@@ -13,22 +16,22 @@ returns c =
 term-list-requires : tie.Need-term-list-requires
 term-list-requires c κs = search needs
 
-enum-told : tie.Need-enum-told
-enum-told c = search needs
-
-enum-known-r : tie.Need-enum-known-r
-enum-known-r c = search needs
-
 returns-2 : tie.Need-returns-2
 returns-2 c =
-    let s = c .before .before .before .before .before .args .block .now in check-accepts-exactly s _ (all-read s (c .before .before .before .if1 .left) _ (sym (ap reached (c .enum-told .given .1)) ∙ c .before .before .term-list .ensures))
+    let s = c .before .before .before .before .before .args .block .now in
+    let r = c .before .before .term-list in
+    check-accepts-exactly s _ (all-read s (c .before .before .before .if1 .left) _ (sym (goes-on (r .result) (c .if2 .taken)) ∙ r .ensures))
+
+refusal-requires : tie.Need-refusal-requires
+refusal-requires c κs = search needs
 
 returns-3 : tie.Need-returns-3
 returns-3 c =
-    let c-args = c .before .before .before .before .before .before .args in
-    let s = c-args .block .now in
-    check-accepts-exactly s _ (not-read s (c .before .before .before .before .if1 .left) _ _ (sym (ap reached (c .before .r .given .1)) ∙ c .before .before .before .term-list .ensures))
+    let s = c .before .before .before .before .before .before .args .block .now in
+    let r = c .before .before .before .term-list in
+    check-accepts-exactly s _
+    (ap (λ (e : AmlError). checkSaid (CheckAnswer.Refused e)) (c .refusal .ensures)
+    ∙ not-read s (c .before .before .before .before .if1 .left) _ _ (sym (stands (r .result) (c .before .if2 .left)) ∙ r .ensures))
 
 pub check-spec : {M : Type 1} → statement M
-check-spec =
-    tie.close (tie.spec returns term-list-requires enum-told enum-known-r returns-2 returns-3)
+check-spec = tie.close (tie.spec returns term-list-requires returns-2 refusal-requires returns-3)

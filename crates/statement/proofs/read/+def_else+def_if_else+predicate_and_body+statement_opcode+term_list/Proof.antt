@@ -2,11 +2,10 @@
 use mathlib.Core.Path.{_≡_, refl, sym, _∙_, ap}
 use Prim.Native.Nat.{ℕ, _<_, _≤_, _+_, _-_, _*_}
 use lib.ListN.{length, drop, length-take, length-drop}
-use Rattle.pkg_length.specs.Pkg.{rawSaid}
 use Rattle.statement.specs.Reading.{Stmt, return}
 use Rattle.statement.specs.Grammar.{depthLimit}
 use Rattle.statement.specs.Refusal.{readTerm, readList, readIf, readHead, whileOf}
-use Rattle.statement.specs.Said.{reached, upTo}
+use Rattle.statement.specs.Said.{upTo}
 use Rattle.statement.proofs.Reaches as reaches
 use borrow.Author.Needs.{needs}
 use native.Mathlib.Omega.{arith}
@@ -139,305 +138,177 @@ def-else-add-pkg t c = search needs
 def-else-pkg-requires : (t : ℕ) → def-else-lts.Need-pkg-requires (def-else-claims t) (def-else-at t) def-else.Post
 def-else-pkg-requires t c κs = search needs
 
-def-else-enum-known-w : (t : ℕ) → def-else-lts.Need-enum-known-w (def-else-claims t) (def-else-at t) def-else.Post
-def-else-enum-known-w t c = search needs
-
-def-else-enum-known-w-2 : (t : ℕ) → def-else-lts.Need-enum-known-w-2 (def-else-claims t) (def-else-at t) def-else.Post
-def-else-enum-known-w-2 t c = search needs
+def-else-returns-3 : (t : ℕ) → def-else-lts.Need-returns-3 (def-else-claims t) (def-else-at t) def-else.Post
+def-else-returns-3 t c =
+    let a = c .before .before .before .before .before .before .before .before .args in
+    reaches.package-stop (c .before .before .before .pkg .result) (c .if3 .taken) (reaches.else-no-package (a .left) (a .base) (a .at) (a .part .now) (c .before .before .before .before .before .before .if1 .left) (c .before .before .before .before .if2 .left)) (c .before .before .before .pkg .ensures)
 
 def-else-add-body : (t : ℕ) → def-else-lts.Need-add-body (def-else-claims t) (def-else-at t) def-else.Post
 def-else-add-body t c = search needs
 
 def-else-add-body-2 : (t : ℕ) → def-else-lts.Need-add-body-2 (def-else-claims t) (def-else-at t) def-else.Post
 def-else-add-body-2 t c =
-    let a = c .before .before .before .before .before .before .before .before .args in let n = c .before .w2 .given .0 .0 in
-    let u = c .before .w2 .given .0 .1 .0 in
-    let ew = sym (ap rawSaid (c .before .w2 .given .1)) ∙ c .before .before .before .pkg .ensures in
-    let lt : a .at < length (a .part .now) = c .before .before .before .before .before .before .if1 .left in
-    let pk = reaches.package-in (a .base + (a .at + 1)) (a .at + 1) (a .part .now) n u ew (omega arith) in
-    omega (arith, pk, c .before .before .before .before .before .before .before .before .pre .1)
+    let a = c .before .before .before .before .before .before .before .before .before .args in
+    omega (arith, reaches.package-within (c .before .before .before .before .pkg .result) (c .before .if3 .left) (a .base + (a .at + 1)) (a .at + 1) (a .part .now) (c .before .before .before .before .pkg .ensures) (omega (arith, c .before .before .before .before .before .before .before .if1 .left)), c .before .before .before .before .before .before .before .before .before .pre .1)
 
 def-else-add-end : (t : ℕ) → def-else-lts.Need-add-end (def-else-claims t) (def-else-at t) def-else.Post
 def-else-add-end t c = search needs
 
 def-else-add-end-2 : (t : ℕ) → def-else-lts.Need-add-end-2 (def-else-claims t) (def-else-at t) def-else.Post
 def-else-add-end-2 t c =
-    let a = c .before .before .before .before .before .before .before .before .args in let n = c .before .w2 .given .0 .0 in
-    let u = c .before .w2 .given .0 .1 .0 in
-    let ew = sym (ap rawSaid (c .before .w2 .given .1)) ∙ c .before .before .before .pkg .ensures in
-    let lt : a .at < length (a .part .now) = c .before .before .before .before .before .before .if1 .left in
-    let pk = reaches.package-in (a .base + (a .at + 1)) (a .at + 1) (a .part .now) n u ew (omega arith) in
-    omega (arith, pk, c .before .before .before .before .before .before .before .before .pre .1)
+    let a = c .before .before .before .before .before .before .before .before .before .before .args in
+    omega (arith, reaches.package-within (c .before .before .before .before .before .pkg .result) (c .before .before .if3 .left) (a .base + (a .at + 1)) (a .at + 1) (a .part .now) (c .before .before .before .before .before .pkg .ensures) (omega (arith, c .before .before .before .before .before .before .before .before .if1 .left)), c .before .before .before .before .before .before .before .before .before .before .pre .1)
 
 def-else-sub-term-list : (t : ℕ) → def-else-lts.Need-sub-term-list (def-else-claims t) (def-else-at t) def-else.Post
 def-else-sub-term-list t c =
-    let a = c .before .before .before .before .before .before .before .before .args in let n = c .before .w2 .given .0 .0 in
-    let u = c .before .w2 .given .0 .1 .0 in
-    let ew = sym (ap rawSaid (c .before .w2 .given .1)) ∙ c .before .before .before .pkg .ensures in
-    let lt : a .at < length (a .part .now) = c .before .before .before .before .before .before .if1 .left in
-    let pk = reaches.package-in (a .base + (a .at + 1)) (a .at + 1) (a .part .now) n u ew (omega arith) in
-    omega (arith, pk, c .before .before .before .before .before .before .before .before .pre .1)
+    let a = c .before .before .before .before .before .before .before .before .before .before .args in
+    omega (arith, reaches.package-within (c .before .before .before .before .before .pkg .result) (c .before .before .if3 .left) (a .base + (a .at + 1)) (a .at + 1) (a .part .now) (c .before .before .before .before .before .pkg .ensures) (omega (arith, c .before .before .before .before .before .before .before .before .if1 .left)), c .before .before .before .before .before .before .before .before .before .before .pre .1)
 
 def-else-part-term-list-start : (t : ℕ) → def-else-lts.Need-part-term-list-start (def-else-claims t) (def-else-at t) def-else.Post
 def-else-part-term-list-start t c =
-    let a = c .before .before .before .before .before .before .before .before .args in let n = c .before .w2 .given .0 .0 in
-    let u = c .before .w2 .given .0 .1 .0 in
-    let ew = sym (ap rawSaid (c .before .w2 .given .1)) ∙ c .before .before .before .pkg .ensures in
-    let lt : a .at < length (a .part .now) = c .before .before .before .before .before .before .if1 .left in
-    let pk = reaches.package-in (a .base + (a .at + 1)) (a .at + 1) (a .part .now) n u ew (omega arith) in
-    omega (arith, pk, c .before .before .before .before .before .before .before .before .pre .1)
+    let a = c .before .before .before .before .before .before .before .before .before .before .args in
+    omega (arith, reaches.package-within (c .before .before .before .before .before .pkg .result) (c .before .before .if3 .left) (a .base + (a .at + 1)) (a .at + 1) (a .part .now) (c .before .before .before .before .before .pkg .ensures) (omega (arith, c .before .before .before .before .before .before .before .before .if1 .left)), c .before .before .before .before .before .before .before .before .before .before .pre .1)
 
 def-else-part-term-list-end : (t : ℕ) → def-else-lts.Need-part-term-list-end (def-else-claims t) (def-else-at t) def-else.Post
 def-else-part-term-list-end t c =
-    let a = c .before .before .before .before .before .before .before .before .args in let n = c .before .w2 .given .0 .0 in
-    let u = c .before .w2 .given .0 .1 .0 in
-    let ew = sym (ap rawSaid (c .before .w2 .given .1)) ∙ c .before .before .before .pkg .ensures in
-    let lt : a .at < length (a .part .now) = c .before .before .before .before .before .before .if1 .left in
-    let pk = reaches.package-in (a .base + (a .at + 1)) (a .at + 1) (a .part .now) n u ew (omega arith) in
-    omega (arith, pk, c .before .before .before .before .before .before .before .before .pre .1)
+    let a = c .before .before .before .before .before .before .before .before .before .before .args in
+    omega (arith, reaches.package-within (c .before .before .before .before .before .pkg .result) (c .before .before .if3 .left) (a .base + (a .at + 1)) (a .at + 1) (a .part .now) (c .before .before .before .before .before .pkg .ensures) (omega (arith, c .before .before .before .before .before .before .before .before .if1 .left)), c .before .before .before .before .before .before .before .before .before .before .pre .1)
 
 def-else-add-term-list : (t : ℕ) → def-else-lts.Need-add-term-list (def-else-claims t) (def-else-at t) def-else.Post
 def-else-add-term-list t c =
-    let a = c .before .before .before .before .before .before .before .before .before .args in let n = c .before .before .w2 .given .0 .0 in
-    let u = c .before .before .w2 .given .0 .1 .0 in
-    let ew = sym (ap rawSaid (c .before .before .w2 .given .1)) ∙ c .before .before .before .before .pkg .ensures in
-    let lt : a .at < length (a .part .now) = c .before .before .before .before .before .before .before .if1 .left in
-    let pk = reaches.package-in (a .base + (a .at + 1)) (a .at + 1) (a .part .now) n u ew (omega arith) in
-    omega (arith, pk, c .before .before .before .before .before .before .before .before .before .pre .1)
+    let a = c .before .before .before .before .before .before .before .before .before .before .before .args in
+    omega (arith, reaches.package-within (c .before .before .before .before .before .before .pkg .result) (c .before .before .before .if3 .left) (a .base + (a .at + 1)) (a .at + 1) (a .part .now) (c .before .before .before .before .before .before .pkg .ensures) (omega (arith, c .before .before .before .before .before .before .before .before .before .if1 .left)), c .before .before .before .before .before .before .before .before .before .before .before .pre .1)
 
 def-else-term-list-requires : (t : ℕ) → def-else-lts.Need-term-list-requires (def-else-claims t) (def-else-at t) def-else.Post
 def-else-term-list-requires t c κs =
-    let a = c .before .before .before .before .before .before .before .before .before .args in let n = c .before .before .w2 .given .0 .0 in
-    let u = c .before .before .w2 .given .0 .1 .0 in
-    let ew = sym (ap rawSaid (c .before .before .w2 .given .1)) ∙ c .before .before .before .before .pkg .ensures in
-    let lt : a .at < length (a .part .now) = c .before .before .before .before .before .before .before .if1 .left in
-    let pk = reaches.package-in (a .base + (a .at + 1)) (a .at + 1) (a .part .now) n u ew (omega arith) in
-    let b = a .at + 1 + u in
-    omega (arith, pk, c .before .before .before .before .before .before .before .before .before .pre, length-take (a .at + 1 + n - b) (drop b (a .part .now)), length-drop b (a .part .now))
-
-def-else-enum-told : (t : ℕ) → def-else-lts.Need-enum-told (def-else-claims t) (def-else-at t) def-else.Post
-def-else-enum-told t c = search needs
-
-def-else-enum-told-2 : (t : ℕ) → def-else-lts.Need-enum-told-2 (def-else-claims t) (def-else-at t) def-else.Post
-def-else-enum-told-2 t c = search needs
-
-def-else-returns-3 : (t : ℕ) → def-else-lts.Need-returns-3 (def-else-claims t) (def-else-at t) def-else.Post
-def-else-returns-3 t c =
-    let c-if1 = c .before .before .before .before .before .before .if1 in
-    let a = c .before .before .before .before .before .before .before .before .args in
-    reaches.else-no-package (a .left) (a .base) (a .at) (a .part .now) (c-if1 .left) (c .before .before .before .before .if2 .left) _ _
-    (sym (ap rawSaid (c .before .w .given .1)) ∙ c .before .before .before .pkg .ensures)
+    let a = c .before .before .before .before .before .before .before .before .before .before .before .args in
+    let n = c .before .before .before .before .before .before .pkg .result .0 .1 in
+    let b = a .at + 1 + c .before .before .before .before .before .before .pkg .result .1 in
+    omega (arith, reaches.package-within (c .before .before .before .before .before .before .pkg .result) (c .before .before .before .if3 .left) (a .base + (a .at + 1)) (a .at + 1) (a .part .now) (c .before .before .before .before .before .before .pkg .ensures) (omega (arith, c .before .before .before .before .before .before .before .before .before .if1 .left)), c .before .before .before .before .before .before .before .before .before .before .before .pre, length-take (a .at + 1 + n - b) (drop b (a .part .now)), length-drop b (a .part .now))
 
 def-else-returns-4 : (t : ℕ) → def-else-lts.Need-returns-4 (def-else-claims t) (def-else-at t) def-else.Post
 def-else-returns-4 t c =
-    let c-if1 = c .before .before .before .before .before .before .before .before .before .before .if1 in
-    let c-if2 = c .before .before .before .before .before .before .before .before .if2 in
-    let c-pkg = c .before .before .before .before .before .before .before .pkg in
-    let c-w2 = c .before .before .before .before .before .w2 in
-    let c-enum-told = c .enum-told in
-    let a = c .before .before .before .before .before .before .before .before .before .before .before .before .args in
-    let n = c-w2 .given .0 .0 in
-    let u = c-w2 .given .0 .1 .0 in
-    let ew = sym (ap rawSaid (c-w2 .given .1)) ∙ c-pkg .ensures in
-    let lt : a .at < length (a .part .now) = c-if1 .left in
-    let pk = reaches.package-in (a .base + (a .at + 1)) (a .at + 1) (a .part .now) n u ew (omega arith) in
-    ap reached (c-enum-told .given .1) ∙ reaches.else-no-body (a .left) (a .base) (a .at) (a .part .now) lt (c-if2 .left) n u ew _ _
-    (sym (ap reached (c-enum-told .given .1)) ∙ c .before .before .term-list .ensures)
+    let a = c .before .before .before .before .before .before .before .before .before .before .before .before .before .before .args in
+    let w = c .before .before .before .before .before .before .before .before .before .pkg .result in
+    let ew = sym (reaches.package-goes-on w (c .before .before .before .before .before .before .if3 .left)) ∙ c .before .before .before .before .before .before .before .before .before .pkg .ensures in
+    reaches.stop (c .before .before .term-list .result) (c .if4 .taken) (reaches.else-no-body (a .left) (a .base) (a .at) (a .part .now) (c .before .before .before .before .before .before .before .before .before .before .before .before .if1 .left) (c .before .before .before .before .before .before .before .before .before .before .if2 .left) (w .0 .1) (w .1) ew) (c .before .before .term-list .ensures)
 
 def-else-returns-5 : (t : ℕ) → def-else-lts.Need-returns-5 (def-else-claims t) (def-else-at t) def-else.Post
 def-else-returns-5 t c =
-    let a = c .before .before .before .before .before .before .before .before .before .before .before .before .args in let n = c .before .before .before .before .before .w2 .given .0 .0 in
-    let u = c .before .before .before .before .before .w2 .given .0 .1 .0 in
-    let ew = sym (ap rawSaid (c .before .before .before .before .before .w2 .given .1)) ∙ c .before .before .before .before .before .before .before .pkg .ensures in
-    let lt : a .at < length (a .part .now) = c .before .before .before .before .before .before .before .before .before .before .if1 .left in
-    let pk = reaches.package-in (a .base + (a .at + 1)) (a .at + 1) (a .part .now) n u ew (omega arith) in
-    reaches.else-body (a .left) (a .base) (a .at) (a .part .now) lt (c .before .before .before .before .before .before .before .before .if2 .left) n u ew _ (sym (ap reached (c .enum-told2 .given .1)) ∙ c .before .before .term-list .ensures)
+    let a = c .before .before .before .before .before .before .before .before .before .before .before .before .before .before .args in
+    let w = c .before .before .before .before .before .before .before .before .before .pkg .result in
+    let ew = sym (reaches.package-goes-on w (c .before .before .before .before .before .before .if3 .left)) ∙ c .before .before .before .before .before .before .before .before .before .pkg .ensures in
+    reaches.else-body (a .left) (a .base) (a .at) (a .part .now) (c .before .before .before .before .before .before .before .before .before .before .before .before .if1 .left) (c .before .before .before .before .before .before .before .before .before .before .if2 .left) (w .0 .1) (w .1) ew _ (sym (reaches.goes-on (c .before .before .term-list .result) (c .if4 .left)) ∙ c .before .before .term-list .ensures)
 
-def-if-else-predicate-and-body-requires :
-    (t : ℕ) → def-if-else-lts.Need-predicate-and-body-requires (def-if-else-claims t) (def-if-else-at t) def-if-else.Post
+def-if-else-predicate-and-body-requires : (t : ℕ) → def-if-else-lts.Need-predicate-and-body-requires (def-if-else-claims t) (def-if-else-at t) def-if-else.Post
 def-if-else-predicate-and-body-requires t c κs = search needs
-
-def-if-else-enum-told : (t : ℕ) → def-if-else-lts.Need-enum-told (def-if-else-claims t) (def-if-else-at t) def-if-else.Post
-def-if-else-enum-told t c = search needs
-
-def-if-else-enum-known-h : (t : ℕ) → def-if-else-lts.Need-enum-known-h (def-if-else-claims t) (def-if-else-at t) def-if-else.Post
-def-if-else-enum-known-h t c = search needs
-
-def-if-else-def-else-requires : (t : ℕ) → def-if-else-lts.Need-def-else-requires (def-if-else-claims t) (def-if-else-at t) def-if-else.Post
-def-if-else-def-else-requires t c κs =
-    let c-pre = c .before .before .before .before .before .pre in
-    let c-predicate-and-body = c .before .before .before .predicate-and-body in
-    let c-h = c .before .h in
-    let a = c .before .before .before .before .before .args in
-    omega (arith, reaches.head-in (a .left) (a .base) (a .at) (a .part .now) (c-h .given .0 .0) (c-pre .1 .0) (sym (ap reached (c-h .given .1)) ∙ c-predicate-and-body .ensures), c-pre)
 
 def-if-else-returns : (t : ℕ) → def-if-else-lts.Need-returns (def-if-else-claims t) (def-if-else-at t) def-if-else.Post
 def-if-else-returns t c =
-    let c-enum-told = c .enum-told in
     let a = c .before .before .before .before .args in
-    ap reached (c-enum-told .given .1) ∙ reaches.if-no-head (a .left) (a .base) (a .at) (a .part .now) _ _
-    (sym (ap reached (c-enum-told .given .1)) ∙ c .before .before .predicate-and-body .ensures)
+    reaches.stop (c .before .before .predicate-and-body .result) (c .if1 .taken) (reaches.if-no-head (a .left) (a .base) (a .at) (a .part .now)) (c .before .before .predicate-and-body .ensures)
+
+def-if-else-def-else-requires : (t : ℕ) → def-if-else-lts.Need-def-else-requires (def-if-else-claims t) (def-if-else-at t) def-if-else.Post
+def-if-else-def-else-requires t c κs =
+    let a = c .before .before .before .before .args in
+    let h = c .before .before .predicate-and-body .result in
+    omega (arith, reaches.head-in (a .left) (a .base) (a .at) (a .part .now) (h .1) (c .before .before .before .before .pre .1 .0) (sym (reaches.goes-on h (c .if1 .left)) ∙ c .before .before .predicate-and-body .ensures), c .before .before .before .before .pre)
 
 def-if-else-returns-2 : (t : ℕ) → def-if-else-lts.Need-returns-2 (def-if-else-claims t) (def-if-else-at t) def-if-else.Post
 def-if-else-returns-2 t c =
-    let c-predicate-and-body = c .before .before .before .before .predicate-and-body in
-    let c-h = c .before .before .h in
-    let a = c .before .before .before .before .before .before .args in
-    reaches.if-else (a .left) (a .base) (a .at) (a .part .now) (c-h .given .0 .0) (sym (ap reached (c-h .given .1)) ∙ c-predicate-and-body .ensures) _
-    (c .def-else .ensures)
+    let a = c .before .before .before .before .before .args in
+    let h = c .before .before .before .predicate-and-body .result in
+    reaches.if-else (a .left) (a .base) (a .at) (a .part .now) (h .1) (sym (reaches.goes-on h (c .before .if1 .left)) ∙ c .before .before .before .predicate-and-body .ensures) _ (c .def-else .ensures)
 
 predicate-and-body-pkg-requires : (t : ℕ) → predicate-and-body-lts.Need-pkg-requires (predicate-and-body-claims t) (predicate-and-body-at t) predicate-and-body.Post
 predicate-and-body-pkg-requires t c κs = search needs
 
-predicate-and-body-enum-known-w : (t : ℕ) → predicate-and-body-lts.Need-enum-known-w (predicate-and-body-claims t) (predicate-and-body-at t) predicate-and-body.Post
-predicate-and-body-enum-known-w t c = search needs
-
-predicate-and-body-enum-known-w-2 : (t : ℕ) → predicate-and-body-lts.Need-enum-known-w-2 (predicate-and-body-claims t) (predicate-and-body-at t) predicate-and-body.Post
-predicate-and-body-enum-known-w-2 t c = search needs
+predicate-and-body-returns : (t : ℕ) → predicate-and-body-lts.Need-returns (predicate-and-body-claims t) (predicate-and-body-at t) predicate-and-body.Post
+predicate-and-body-returns t c =
+    let a = c .before .before .before .before .before .args in
+    reaches.package-stop (c .before .before .before .pkg .result) (c .if1 .taken) (reaches.head-no-package (a .left) (a .base) (a .at) (a .part .now)) (c .before .before .before .pkg .ensures)
 
 predicate-and-body-add-term-arg : (t : ℕ) → predicate-and-body-lts.Need-add-term-arg (predicate-and-body-claims t) (predicate-and-body-at t) predicate-and-body.Post
 predicate-and-body-add-term-arg t c =
-    let a = c .before .before .before .before .before .args in let n = c .before .w2 .given .0 .0 in
-    let u = c .before .w2 .given .0 .1 .0 in
-    let ew = sym (ap rawSaid (c .before .w2 .given .1)) ∙ c .before .before .before .pkg .ensures in
-    let pk = reaches.package-in (a .base + a .at) (a .at) (a .part .now) n u ew (c .before .before .before .before .before .pre .1 .0) in
-    omega (arith, pk, c .before .before .before .before .before .pre .1)
+    let a = c .before .before .before .before .before .before .args in
+    let w = c .before .before .before .before .pkg .result in
+    omega (arith, reaches.package-within w (c .before .if1 .left) (a .base + a .at) (a .at) (a .part .now) (c .before .before .before .before .pkg .ensures) (c .before .before .before .before .before .before .pre .1 .0), c .before .before .before .before .before .before .pre .1)
 
 predicate-and-body-term-arg-requires : (t : ℕ) → predicate-and-body-lts.Need-term-arg-requires (predicate-and-body-claims t) (predicate-and-body-at t) predicate-and-body.Post
 predicate-and-body-term-arg-requires t c κs =
-    let a = c .before .before .before .before .before .args in let n = c .before .w2 .given .0 .0 in
-    let u = c .before .w2 .given .0 .1 .0 in
-    let ew = sym (ap rawSaid (c .before .w2 .given .1)) ∙ c .before .before .before .pkg .ensures in
-    let pk = reaches.package-in (a .base + a .at) (a .at) (a .part .now) n u ew (c .before .before .before .before .before .pre .1 .0) in
-    omega (arith, pk, c .before .before .before .before .before .pre .1)
-
-predicate-and-body-enum-told : (t : ℕ) → predicate-and-body-lts.Need-enum-told (predicate-and-body-claims t) (predicate-and-body-at t) predicate-and-body.Post
-predicate-and-body-enum-told t c = search needs
-
-predicate-and-body-enum-known-t : (t : ℕ) → predicate-and-body-lts.Need-enum-known-t (predicate-and-body-claims t) (predicate-and-body-at t) predicate-and-body.Post
-predicate-and-body-enum-known-t t c = search needs
-
-predicate-and-body-add-end : (t : ℕ) → predicate-and-body-lts.Need-add-end (predicate-and-body-claims t) (predicate-and-body-at t) predicate-and-body.Post
-predicate-and-body-add-end t c =
-    let a = c .before .before .before .before .before .before .before .before .before .args in let n = c .before .before .before .before .before .w2 .given .0 .0 in
-    let u = c .before .before .before .before .before .w2 .given .0 .1 .0 in
-    let ew = sym (ap rawSaid (c .before .before .before .before .before .w2 .given .1)) ∙ c .before .before .before .before .before .before .before .pkg .ensures in
-    let pk = reaches.package-in (a .base + a .at) (a .at) (a .part .now) n u ew (c .before .before .before .before .before .before .before .before .before .pre .1 .0) in
-    omega (arith, pk, c .before .before .before .before .before .before .before .before .before .pre .1)
-
-predicate-and-body-add-t17 : (t : ℕ) → predicate-and-body-lts.Need-add-t17 (predicate-and-body-claims t) (predicate-and-body-at t) predicate-and-body.Post
-predicate-and-body-add-t17 t c = search needs
-
-predicate-and-body-returns : (t : ℕ) → predicate-and-body-lts.Need-returns (predicate-and-body-claims t) (predicate-and-body-at t) predicate-and-body.Post
-predicate-and-body-returns t c =
-    let a = c .before .before .before .before .before .before .before .before .before .before .args in let n = c .before .before .before .before .before .before .w2 .given .0 .0 in
-    let u = c .before .before .before .before .before .before .w2 .given .0 .1 .0 in
-    let ew = sym (ap rawSaid (c .before .before .before .before .before .before .w2 .given .1)) ∙ c .before .before .before .before .before .before .before .before .pkg .ensures in
-    let pk = reaches.package-in (a .base + a .at) (a .at) (a .part .now) n u ew (c .before .before .before .before .before .before .before .before .before .before .pre .1 .0) in
-    let m = c .before .before .t .given .0 .0 in
-    let et = sym (ap reached (c .before .before .t .given .1)) ∙ c .before .before .before .before .term-arg .ensures in
-    let tm = reaches.term-in depthLimit (a .base + (a .at + u)) (a .at + u) (a .part .now) m (omega (arith, pk)) et in
-    reaches.head-short (a .left) (a .base) (a .at) (a .part .now) n u ew m et (c .if1 .taken)
-
-predicate-and-body-part-term-list-start :
-    (t : ℕ) → predicate-and-body-lts.Need-part-term-list-start (predicate-and-body-claims t) (predicate-and-body-at t) predicate-and-body.Post
-predicate-and-body-part-term-list-start t c =
-    let a = c .before .before .before .before .before .before .before .before .before .before .args in let n = c .before .before .before .before .before .before .w2 .given .0 .0 in
-    let u = c .before .before .before .before .before .before .w2 .given .0 .1 .0 in
-    let ew = sym (ap rawSaid (c .before .before .before .before .before .before .w2 .given .1)) ∙ c .before .before .before .before .before .before .before .before .pkg .ensures in
-    let pk = reaches.package-in (a .base + a .at) (a .at) (a .part .now) n u ew (c .before .before .before .before .before .before .before .before .before .before .pre .1 .0) in
-    let m = c .before .before .t .given .0 .0 in
-    let et = sym (ap reached (c .before .before .t .given .1)) ∙ c .before .before .before .before .term-arg .ensures in
-    let tm = reaches.term-in depthLimit (a .base + (a .at + u)) (a .at + u) (a .part .now) m (omega (arith, pk)) et in
-    omega (arith, c .if1 .left)
-
-predicate-and-body-part-term-list-end : (t : ℕ) → predicate-and-body-lts.Need-part-term-list-end (predicate-and-body-claims t) (predicate-and-body-at t) predicate-and-body.Post
-predicate-and-body-part-term-list-end t c =
-    let a = c .before .before .before .before .before .before .before .before .before .before .args in let n = c .before .before .before .before .before .before .w2 .given .0 .0 in
-    let u = c .before .before .before .before .before .before .w2 .given .0 .1 .0 in
-    let ew = sym (ap rawSaid (c .before .before .before .before .before .before .w2 .given .1)) ∙ c .before .before .before .before .before .before .before .before .pkg .ensures in
-    let pk = reaches.package-in (a .base + a .at) (a .at) (a .part .now) n u ew (c .before .before .before .before .before .before .before .before .before .before .pre .1 .0) in
-    let m = c .before .before .t .given .0 .0 in
-    let et = sym (ap reached (c .before .before .t .given .1)) ∙ c .before .before .before .before .term-arg .ensures in
-    let tm = reaches.term-in depthLimit (a .base + (a .at + u)) (a .at + u) (a .part .now) m (omega (arith, pk)) et in
-    omega (arith, pk)
-
-predicate-and-body-add-term-list : (t : ℕ) → predicate-and-body-lts.Need-add-term-list (predicate-and-body-claims t) (predicate-and-body-at t) predicate-and-body.Post
-predicate-and-body-add-term-list t c =
-    let a = c .before .before .before .before .before .before .before .before .before .before .before .args in let n = c .before .before .before .before .before .before .before .w2 .given .0 .0 in
-    let u = c .before .before .before .before .before .before .before .w2 .given .0 .1 .0 in
-    let ew = sym (ap rawSaid (c .before .before .before .before .before .before .before .w2 .given .1)) ∙ c .before .before .before .before .before .before .before .before .before .pkg .ensures in
-    let pk = reaches.package-in (a .base + a .at) (a .at) (a .part .now) n u ew (c .before .before .before .before .before .before .before .before .before .before .before .pre .1 .0) in
-    let m = c .before .before .before .t .given .0 .0 in
-    let et = sym (ap reached (c .before .before .before .t .given .1)) ∙ c .before .before .before .before .before .term-arg .ensures in
-    let tm = reaches.term-in depthLimit (a .base + (a .at + u)) (a .at + u) (a .part .now) m (omega (arith, pk)) et in
-    omega (arith, tm, c .before .before .before .before .before .before .before .before .before .before .before .pre .1)
-
-predicate-and-body-term-list-requires : (t : ℕ) → predicate-and-body-lts.Need-term-list-requires (predicate-and-body-claims t) (predicate-and-body-at t) predicate-and-body.Post
-predicate-and-body-term-list-requires t c κs =
-    let a = c .before .before .before .before .before .before .before .before .before .before .before .args in let n = c .before .before .before .before .before .before .before .w2 .given .0 .0 in
-    let u = c .before .before .before .before .before .before .before .w2 .given .0 .1 .0 in
-    let ew = sym (ap rawSaid (c .before .before .before .before .before .before .before .w2 .given .1)) ∙ c .before .before .before .before .before .before .before .before .before .pkg .ensures in
-    let pk = reaches.package-in (a .base + a .at) (a .at) (a .part .now) n u ew (c .before .before .before .before .before .before .before .before .before .before .before .pre .1 .0) in
-    let m = c .before .before .before .t .given .0 .0 in
-    let et = sym (ap reached (c .before .before .before .t .given .1)) ∙ c .before .before .before .before .before .term-arg .ensures in
-    let tm = reaches.term-in depthLimit (a .base + (a .at + u)) (a .at + u) (a .part .now) m (omega (arith, pk)) et in
-    omega (arith, pk, tm, c .before .if1 .left, c .before .before .before .before .before .before .before .before .before .before .before .pre, length-take (a .at + n - m) (drop m (a .part .now)), length-drop m (a .part .now))
-
-predicate-and-body-enum-told-2 : (t : ℕ) → predicate-and-body-lts.Need-enum-told-2 (predicate-and-body-claims t) (predicate-and-body-at t) predicate-and-body.Post
-predicate-and-body-enum-told-2 t c = search needs
-
-predicate-and-body-enum-told-3 : (t : ℕ) → predicate-and-body-lts.Need-enum-told-3 (predicate-and-body-claims t) (predicate-and-body-at t) predicate-and-body.Post
-predicate-and-body-enum-told-3 t c = search needs
+    let a = c .before .before .before .before .before .before .args in
+    let w = c .before .before .before .before .pkg .result in
+    omega (arith, reaches.package-within w (c .before .if1 .left) (a .base + a .at) (a .at) (a .part .now) (c .before .before .before .before .pkg .ensures) (c .before .before .before .before .before .before .pre .1 .0), c .before .before .before .before .before .before .pre .1)
 
 predicate-and-body-returns-2 : (t : ℕ) → predicate-and-body-lts.Need-returns-2 (predicate-and-body-claims t) (predicate-and-body-at t) predicate-and-body.Post
 predicate-and-body-returns-2 t c =
-    let a = c .before .before .before .before .before .args in reaches.head-no-package (a .left) (a .base) (a .at) (a .part .now) _ _ (sym (ap rawSaid (c .before .w .given .1)) ∙ c .before .before .before .pkg .ensures)
+    let a = c .before .before .before .before .before .before .before .before .before .args in
+    let w = c .before .before .before .before .before .before .before .pkg .result in
+    let t = c .before .before .term-arg .result in
+    let ew = sym (reaches.package-goes-on w (c .before .before .before .before .if1 .left)) ∙ c .before .before .before .before .before .before .before .pkg .ensures in
+    reaches.stop t (c .if2 .taken) (reaches.head-no-term (a .left) (a .base) (a .at) (a .part .now) (w .0 .1) (w .1) ew) (c .before .before .term-arg .ensures)
+
+predicate-and-body-add-end : (t : ℕ) → predicate-and-body-lts.Need-add-end (predicate-and-body-claims t) (predicate-and-body-at t) predicate-and-body.Post
+predicate-and-body-add-end t c =
+    let a = c .before .before .before .before .before .before .before .before .before .before .args in
+    let w = c .before .before .before .before .before .before .before .before .pkg .result in
+    omega (arith, reaches.package-within w (c .before .before .before .before .before .if1 .left) (a .base + a .at) (a .at) (a .part .now) (c .before .before .before .before .before .before .before .before .pkg .ensures) (c .before .before .before .before .before .before .before .before .before .before .pre .1 .0), c .before .before .before .before .before .before .before .before .before .before .pre .1)
+
+predicate-and-body-add-t13 : (t : ℕ) → predicate-and-body-lts.Need-add-t13 (predicate-and-body-claims t) (predicate-and-body-at t) predicate-and-body.Post
+predicate-and-body-add-t13 t c = search needs
 
 predicate-and-body-returns-3 : (t : ℕ) → predicate-and-body-lts.Need-returns-3 (predicate-and-body-claims t) (predicate-and-body-at t) predicate-and-body.Post
 predicate-and-body-returns-3 t c =
-    let a = c .before .before .before .before .before .before .before .before .args in let n = c .before .before .before .before .w2 .given .0 .0 in
-    let u = c .before .before .before .before .w2 .given .0 .1 .0 in
-    let ew = sym (ap rawSaid (c .before .before .before .before .w2 .given .1)) ∙ c .before .before .before .before .before .before .pkg .ensures in
-    let pk = reaches.package-in (a .base + a .at) (a .at) (a .part .now) n u ew (c .before .before .before .before .before .before .before .before .pre .1 .0) in
-    ap reached (c .enum-told .given .1) ∙ reaches.head-no-term (a .left) (a .base) (a .at) (a .part .now) n u ew _ _ (sym (ap reached (c .enum-told .given .1)) ∙ c .before .before .term-arg .ensures)
+    let a = c .before .before .before .before .before .before .before .before .before .before .before .args in
+    let w = c .before .before .before .before .before .before .before .before .before .pkg .result in
+    let t = c .before .before .before .before .term-arg .result in
+    let ew = sym (reaches.package-goes-on w (c .before .before .before .before .before .before .if1 .left)) ∙ c .before .before .before .before .before .before .before .before .before .pkg .ensures in
+    let et = sym (reaches.goes-on t (c .before .before .if2 .left)) ∙ c .before .before .before .before .term-arg .ensures in
+    reaches.head-short (a .left) (a .base) (a .at) (a .part .now) (w .0 .1) (w .1) ew (t .1) et (c .if3 .taken)
+
+predicate-and-body-part-term-list-start : (t : ℕ) → predicate-and-body-lts.Need-part-term-list-start (predicate-and-body-claims t) (predicate-and-body-at t) predicate-and-body.Post
+predicate-and-body-part-term-list-start t c =
+    omega (arith, c .if3 .left)
+
+predicate-and-body-part-term-list-end : (t : ℕ) → predicate-and-body-lts.Need-part-term-list-end (predicate-and-body-claims t) (predicate-and-body-at t) predicate-and-body.Post
+predicate-and-body-part-term-list-end t c =
+    let a = c .before .before .before .before .before .before .before .before .before .before .before .args in
+    let w = c .before .before .before .before .before .before .before .before .before .pkg .result in
+    omega (arith, reaches.package-within w (c .before .before .before .before .before .before .if1 .left) (a .base + a .at) (a .at) (a .part .now) (c .before .before .before .before .before .before .before .before .before .pkg .ensures) (c .before .before .before .before .before .before .before .before .before .before .before .pre .1 .0))
+
+predicate-and-body-add-term-list : (t : ℕ) → predicate-and-body-lts.Need-add-term-list (predicate-and-body-claims t) (predicate-and-body-at t) predicate-and-body.Post
+predicate-and-body-add-term-list t c =
+    let a = c .before .before .before .before .before .before .before .before .before .before .before .before .args in
+    let w = c .before .before .before .before .before .before .before .before .before .before .pkg .result in
+    let t = c .before .before .before .before .before .term-arg .result in
+    let pk = reaches.package-within w (c .before .before .before .before .before .before .before .if1 .left) (a .base + a .at) (a .at) (a .part .now) (c .before .before .before .before .before .before .before .before .before .before .pkg .ensures) (c .before .before .before .before .before .before .before .before .before .before .before .before .pre .1 .0) in
+    omega (arith, reaches.term-in depthLimit (a .base + (a .at + w .1)) (a .at + w .1) (a .part .now) (t .1) (omega (arith, pk)) (sym (reaches.goes-on t (c .before .before .before .if2 .left)) ∙ c .before .before .before .before .before .term-arg .ensures), c .before .before .before .before .before .before .before .before .before .before .before .before .pre .1)
+
+predicate-and-body-term-list-requires : (t : ℕ) → predicate-and-body-lts.Need-term-list-requires (predicate-and-body-claims t) (predicate-and-body-at t) predicate-and-body.Post
+predicate-and-body-term-list-requires t c κs =
+    let a = c .before .before .before .before .before .before .before .before .before .before .before .before .args in
+    let w = c .before .before .before .before .before .before .before .before .before .before .pkg .result in
+    let t = c .before .before .before .before .before .term-arg .result in
+    let pk = reaches.package-within w (c .before .before .before .before .before .before .before .if1 .left) (a .base + a .at) (a .at) (a .part .now) (c .before .before .before .before .before .before .before .before .before .before .pkg .ensures) (c .before .before .before .before .before .before .before .before .before .before .before .before .pre .1 .0) in
+    omega (arith, pk, reaches.term-in depthLimit (a .base + (a .at + w .1)) (a .at + w .1) (a .part .now) (t .1) (omega (arith, pk)) (sym (reaches.goes-on t (c .before .before .before .if2 .left)) ∙ c .before .before .before .before .before .term-arg .ensures), c .before .if3 .left, c .before .before .before .before .before .before .before .before .before .before .before .before .pre, length-take (a .at + w .0 .1 - t .1) (drop (t .1) (a .part .now)), length-drop (t .1) (a .part .now))
 
 predicate-and-body-returns-4 : (t : ℕ) → predicate-and-body-lts.Need-returns-4 (predicate-and-body-claims t) (predicate-and-body-at t) predicate-and-body.Post
 predicate-and-body-returns-4 t c =
-    let c-pre = c .before .before .before .before .before .before .before .before .before .before .before .before .before .before .pre in
-    let c-pkg = c .before .before .before .before .before .before .before .before .before .before .before .before .pkg in
-    let c-w2 = c .before .before .before .before .before .before .before .before .before .before .w2 in
-    let c-term-arg = c .before .before .before .before .before .before .before .before .term-arg in
-    let c-t = c .before .before .before .before .before .before .t in
-    let c-enum-told2 = c .enum-told2 in
-    let a = c .before .before .before .before .before .before .before .before .before .before .before .before .before .before .args in
-    let n = c-w2 .given .0 .0 in
-    let u = c-w2 .given .0 .1 .0 in
-    let ew = sym (ap rawSaid (c-w2 .given .1)) ∙ c-pkg .ensures in
-    let pk = reaches.package-in (a .base + a .at) (a .at) (a .part .now) n u ew (c-pre .1 .0) in
-    let m = c-t .given .0 .0 in
-    let et = sym (ap reached (c-t .given .1)) ∙ c-term-arg .ensures in
-    let tm = reaches.term-in depthLimit (a .base + (a .at + u)) (a .at + u) (a .part .now) m (omega (arith, pk)) et in
-    ap reached (c-enum-told2 .given .1) ∙ reaches.head-no-body (a .left) (a .base) (a .at) (a .part .now) n u ew m et
-    (c .before .before .before .before .if1 .left) _ _ (sym (ap reached (c-enum-told2 .given .1)) ∙ c .before .before .term-list .ensures)
+    let a = c .before .before .before .before .before .before .before .before .before .before .before .before .before .before .before .args in
+    let w = c .before .before .before .before .before .before .before .before .before .before .before .before .before .pkg .result in
+    let t = c .before .before .before .before .before .before .before .before .term-arg .result in
+    let ew = sym (reaches.package-goes-on w (c .before .before .before .before .before .before .before .before .before .before .if1 .left)) ∙ c .before .before .before .before .before .before .before .before .before .before .before .before .before .pkg .ensures in
+    let et = sym (reaches.goes-on t (c .before .before .before .before .before .before .if2 .left)) ∙ c .before .before .before .before .before .before .before .before .term-arg .ensures in
+    reaches.stop (c .before .before .term-list .result) (c .if4 .taken) (reaches.head-no-body (a .left) (a .base) (a .at) (a .part .now) (w .0 .1) (w .1) ew (t .1) et (c .before .before .before .before .if3 .left)) (c .before .before .term-list .ensures)
 
 predicate-and-body-returns-5 : (t : ℕ) → predicate-and-body-lts.Need-returns-5 (predicate-and-body-claims t) (predicate-and-body-at t) predicate-and-body.Post
 predicate-and-body-returns-5 t c =
-    let c-pre = c .before .before .before .before .before .before .before .before .before .before .before .before .before .before .pre in
-    let c-pkg = c .before .before .before .before .before .before .before .before .before .before .before .before .pkg in
-    let c-w2 = c .before .before .before .before .before .before .before .before .before .before .w2 in
-    let c-term-arg = c .before .before .before .before .before .before .before .before .term-arg in
-    let c-t = c .before .before .before .before .before .before .t in
-    let a = c .before .before .before .before .before .before .before .before .before .before .before .before .before .before .args in
-    let n = c-w2 .given .0 .0 in
-    let u = c-w2 .given .0 .1 .0 in
-    let ew = sym (ap rawSaid (c-w2 .given .1)) ∙ c-pkg .ensures in
-    let pk = reaches.package-in (a .base + a .at) (a .at) (a .part .now) n u ew (c-pre .1 .0) in
-    let m = c-t .given .0 .0 in
-    let et = sym (ap reached (c-t .given .1)) ∙ c-term-arg .ensures in
-    let tm = reaches.term-in depthLimit (a .base + (a .at + u)) (a .at + u) (a .part .now) m (omega (arith, pk)) et in
-    reaches.head-body (a .left) (a .base) (a .at) (a .part .now) n u ew m et (c .before .before .before .before .if1 .left) _
-    (sym (ap reached (c .enum-told3 .given .1)) ∙ c .before .before .term-list .ensures)
+    let a = c .before .before .before .before .before .before .before .before .before .before .before .before .before .before .before .args in
+    let w = c .before .before .before .before .before .before .before .before .before .before .before .before .before .pkg .result in
+    let t = c .before .before .before .before .before .before .before .before .term-arg .result in
+    let ew = sym (reaches.package-goes-on w (c .before .before .before .before .before .before .before .before .before .before .if1 .left)) ∙ c .before .before .before .before .before .before .before .before .before .before .before .before .before .pkg .ensures in
+    let et = sym (reaches.goes-on t (c .before .before .before .before .before .before .if2 .left)) ∙ c .before .before .before .before .before .before .before .before .term-arg .ensures in
+    reaches.head-body (a .left) (a .base) (a .at) (a .part .now) (w .0 .1) (w .1) ew (t .1) et (c .before .before .before .before .if3 .left) _ (sym (reaches.goes-on (c .before .before .term-list .result) (c .if4 .left)) ∙ c .before .before .term-list .ensures)
 
 statement-opcode-add-t7 : (t : ℕ) → statement-opcode-lts.Need-add-t7 (statement-opcode-claims t) (statement-opcode-at t) statement-opcode.Post
 statement-opcode-add-t7 t c = search needs
@@ -446,8 +317,7 @@ statement-opcode-returns : (t : ℕ) → statement-opcode-lts.Need-returns (stat
 statement-opcode-returns t c =
     let a = c .before .before .args in reaches.stmt-deep (a .left) (a .base) (a .at) (a .part .now) (c .if1 .taken)
 
-statement-opcode-shared-slice-read-stmt-op :
-    (t : ℕ) → statement-opcode-lts.Need-shared-slice-read-stmt-op (statement-opcode-claims t) (statement-opcode-at t) statement-opcode.Post
+statement-opcode-shared-slice-read-stmt-op : (t : ℕ) → statement-opcode-lts.Need-shared-slice-read-stmt-op (statement-opcode-claims t) (statement-opcode-at t) statement-opcode.Post
 statement-opcode-shared-slice-read-stmt-op t c = search needs
 
 statement-opcode-stmt-op-requires : (t : ℕ) → statement-opcode-lts.Need-stmt-op-requires (statement-opcode-claims t) (statement-opcode-at t) statement-opcode.Post
@@ -456,8 +326,8 @@ statement-opcode-stmt-op-requires t c κs = search needs
 statement-opcode-enum-told : (t : ℕ) → statement-opcode-lts.Need-enum-told (statement-opcode-claims t) (statement-opcode-at t) statement-opcode.Post
 statement-opcode-enum-told t c = search needs
 
-statement-opcode-add-t12 : (t : ℕ) → statement-opcode-lts.Need-add-t12 (statement-opcode-claims t) (statement-opcode-at t) statement-opcode.Post
-statement-opcode-add-t12 t c = search needs
+statement-opcode-add-t11 : (t : ℕ) → statement-opcode-lts.Need-add-t11 (statement-opcode-claims t) (statement-opcode-at t) statement-opcode.Post
+statement-opcode-add-t11 t c = search needs
 
 statement-opcode-enum-told-2 : (t : ℕ) → statement-opcode-lts.Need-enum-told-2 (statement-opcode-claims t) (statement-opcode-at t) statement-opcode.Post
 statement-opcode-enum-told-2 t c = search needs
@@ -483,23 +353,19 @@ statement-opcode-def-if-else-requires t c κs = search needs
 statement-opcode-enum-told-4 : (t : ℕ) → statement-opcode-lts.Need-enum-told-4 (statement-opcode-claims t) (statement-opcode-at t) statement-opcode.Post
 statement-opcode-enum-told-4 t c = search needs
 
-statement-opcode-add-predicate-and-body :
-    (t : ℕ) → statement-opcode-lts.Need-add-predicate-and-body (statement-opcode-claims t) (statement-opcode-at t) statement-opcode.Post
+statement-opcode-add-predicate-and-body : (t : ℕ) → statement-opcode-lts.Need-add-predicate-and-body (statement-opcode-claims t) (statement-opcode-at t) statement-opcode.Post
 statement-opcode-add-predicate-and-body t c = search needs
 
-statement-opcode-sub-predicate-and-body :
-    (t : ℕ) → statement-opcode-lts.Need-sub-predicate-and-body (statement-opcode-claims t) (statement-opcode-at t) statement-opcode.Post
+statement-opcode-sub-predicate-and-body : (t : ℕ) → statement-opcode-lts.Need-sub-predicate-and-body (statement-opcode-claims t) (statement-opcode-at t) statement-opcode.Post
 statement-opcode-sub-predicate-and-body t c = search needs
 
-statement-opcode-predicate-and-body-requires :
-    (t : ℕ) → statement-opcode-lts.Need-predicate-and-body-requires (statement-opcode-claims t) (statement-opcode-at t) statement-opcode.Post
+statement-opcode-predicate-and-body-requires : (t : ℕ) → statement-opcode-lts.Need-predicate-and-body-requires (statement-opcode-claims t) (statement-opcode-at t) statement-opcode.Post
 statement-opcode-predicate-and-body-requires t c κs = search needs
 
 statement-opcode-enum-told-5 : (t : ℕ) → statement-opcode-lts.Need-enum-told-5 (statement-opcode-claims t) (statement-opcode-at t) statement-opcode.Post
 statement-opcode-enum-told-5 t c = search needs
 
-statement-opcode-expression-opcode-requires :
-    (t : ℕ) → statement-opcode-lts.Need-expression-opcode-requires (statement-opcode-claims t) (statement-opcode-at t) statement-opcode.Post
+statement-opcode-expression-opcode-requires : (t : ℕ) → statement-opcode-lts.Need-expression-opcode-requires (statement-opcode-claims t) (statement-opcode-at t) statement-opcode.Post
 statement-opcode-expression-opcode-requires t c κs = search needs
 
 statement-opcode-returns-2 : (t : ℕ) → statement-opcode-lts.Need-returns-2 (statement-opcode-claims t) (statement-opcode-at t) statement-opcode.Post
@@ -560,38 +426,23 @@ term-list-loop-holds t c =
 term-list-statement-opcode-requires : (t : ℕ) → term-list-lts.Need-statement-opcode-requires (term-list-claims t) (term-list-at t) term-list.Post term-list-Inv-loop term-list-μ-loop
 term-list-statement-opcode-requires t c κs = search needs
 
-term-list-enum-known-r : (t : ℕ) → term-list-lts.Need-enum-known-r (term-list-claims t) (term-list-at t) term-list.Post term-list-Inv-loop term-list-μ-loop
-term-list-enum-known-r t c = search needs
+term-list-returns : (t : ℕ) → term-list-lts.Need-returns (term-list-claims t) (term-list-at t) term-list.Post term-list-Inv-loop term-list-μ-loop
+term-list-returns t c =
+    let a = c .before .before .before .before .before .before .args in
+    reaches.stop (c .before .before .statement-opcode .result) (c .if1 .taken) (reaches.list-stop (a .left) (a .base) (c .before .before .before .before .loop .at) (a .part .now) (c .before .before .before .loop-test .taken)) (c .before .before .statement-opcode .ensures) ∙ sym (c .before .before .before .before .loop .inv .1)
 
 term-list-loop-less : (t : ℕ) → term-list-lts.Need-loop-less (term-list-claims t) (term-list-at t) term-list.Post term-list-Inv-loop term-list-μ-loop
 term-list-loop-less t c =
-    let c-loop = c .before .before .before .before .before .loop in
-    let c-loop-test = c .before .before .before .before .loop-test in
-    let c-statement-opcode = c .before .before .before .statement-opcode in
-    let c-r = c .before .r in
-    let a = c .before .before .before .before .before .before .before .args in
-    omega (arith, reaches.list-more (a .left) (a .base) (c-loop .at) (a .part .now) (c-loop-test .taken) (c-r .given .0 .0) (sym (ap reached (c-r .given .1)) ∙ c-statement-opcode .ensures))
+    let a = c .before .before .before .before .before .before .args in
+    let r = c .before .before .statement-opcode .result in
+    omega (arith, reaches.list-more (a .left) (a .base) (c .before .before .before .before .loop .at) (a .part .now) (c .before .before .before .loop-test .taken) (r .1) (sym (reaches.goes-on r (c .if1 .left)) ∙ c .before .before .statement-opcode .ensures))
 
 term-list-loop-again : (t : ℕ) → term-list-lts.Need-loop-again (term-list-claims t) (term-list-at t) term-list.Post term-list-Inv-loop term-list-μ-loop
 term-list-loop-again t c =
-    let c-loop = c .before .before .before .before .before .loop in
-    let c-loop-test = c .before .before .before .before .loop-test in
-    let c-statement-opcode = c .before .before .before .statement-opcode in
-    let c-r = c .before .r in
-    let a = c .before .before .before .before .before .before .before .args in
-    let m = reaches.list-more (a .left) (a .base) (c-loop .at) (a .part .now) (c-loop-test .taken) (c-r .given .0 .0) (sym (ap reached (c-r .given .1)) ∙ c-statement-opcode .ensures) in
-    (m .1, c-loop .inv .1 ∙ m .2)
-
-term-list-enum-told : (t : ℕ) → term-list-lts.Need-enum-told (term-list-claims t) (term-list-at t) term-list.Post term-list-Inv-loop term-list-μ-loop
-term-list-enum-told t c = search needs
-
-term-list-returns : (t : ℕ) → term-list-lts.Need-returns (term-list-claims t) (term-list-at t) term-list.Post term-list-Inv-loop term-list-μ-loop
-term-list-returns t c =
-    let c-loop = c .before .before .before .before .loop in
-    let c-enum-told = c .enum-told in
     let a = c .before .before .before .before .before .before .args in
-    ap reached (c-enum-told .given .1) ∙ reaches.list-stop (a .left) (a .base) (c-loop .at) (a .part .now) (c .before .before .before .loop-test .taken) _
-    _ (sym (ap reached (c-enum-told .given .1)) ∙ c .before .before .statement-opcode .ensures) ∙ sym (c-loop .inv .1)
+    let r = c .before .before .statement-opcode .result in
+    let m = reaches.list-more (a .left) (a .base) (c .before .before .before .before .loop .at) (a .part .now) (c .before .before .before .loop-test .taken) (r .1) (sym (reaches.goes-on r (c .if1 .left)) ∙ c .before .before .statement-opcode .ensures) in
+    (m .1, c .before .before .before .before .loop .inv .1 ∙ m .2)
 
 term-list-returns-2 : (t : ℕ) → term-list-lts.Need-returns-2 (term-list-claims t) (term-list-at t) term-list.Post term-list-Inv-loop term-list-μ-loop
 term-list-returns-2 t c =
@@ -606,17 +457,13 @@ pub +def-else+def-if-else+predicate-and-body+statement-opcode+term-list-spec :
     μ-predicate-and-body
     μ-statement-opcode
     μ-term-list
-    (λ t. def-else-lts.spec
-    (pkg-reads.Asked, pkg-reads.Learnt, term-list-below t, term-list.Post)
-    (def-else-at t)
-    def-else.Post
+    (λ t. def-else-lts.spec (def-else-claims t) (def-else-at t) def-else.Post
     (def-else-returns t)
     (def-else-shared-slice-read-if2 t)
     (def-else-returns-2 t)
     (def-else-add-pkg t)
     (def-else-pkg-requires t)
-    (def-else-enum-known-w t)
-    (def-else-enum-known-w-2 t)
+    (def-else-returns-3 t)
     (def-else-add-body t)
     (def-else-add-body-2 t)
     (def-else-add-end t)
@@ -626,37 +473,26 @@ pub +def-else+def-if-else+predicate-and-body+statement-opcode+term-list-spec :
     (def-else-part-term-list-end t)
     (def-else-add-term-list t)
     (def-else-term-list-requires t)
-    (def-else-enum-told t)
-    (def-else-enum-told-2 t)
-    (def-else-returns-3 t)
     (def-else-returns-4 t)
     (def-else-returns-5 t))
     (λ t. def-if-else-lts.spec (def-if-else-claims t) (def-if-else-at t) def-if-else.Post
     (def-if-else-predicate-and-body-requires t)
-    (def-if-else-enum-told t)
-    (def-if-else-enum-known-h t)
-    (def-if-else-def-else-requires t)
     (def-if-else-returns t)
+    (def-if-else-def-else-requires t)
     (def-if-else-returns-2 t))
     (λ t. predicate-and-body-lts.spec (predicate-and-body-claims t) (predicate-and-body-at t) predicate-and-body.Post
     (predicate-and-body-pkg-requires t)
-    (predicate-and-body-enum-known-w t)
-    (predicate-and-body-enum-known-w-2 t)
+    (predicate-and-body-returns t)
     (predicate-and-body-add-term-arg t)
     (predicate-and-body-term-arg-requires t)
-    (predicate-and-body-enum-told t)
-    (predicate-and-body-enum-known-t t)
+    (predicate-and-body-returns-2 t)
     (predicate-and-body-add-end t)
-    (predicate-and-body-add-t17 t)
-    (predicate-and-body-returns t)
+    (predicate-and-body-add-t13 t)
+    (predicate-and-body-returns-3 t)
     (predicate-and-body-part-term-list-start t)
     (predicate-and-body-part-term-list-end t)
     (predicate-and-body-add-term-list t)
     (predicate-and-body-term-list-requires t)
-    (predicate-and-body-enum-told-2 t)
-    (predicate-and-body-enum-told-3 t)
-    (predicate-and-body-returns-2 t)
-    (predicate-and-body-returns-3 t)
     (predicate-and-body-returns-4 t)
     (predicate-and-body-returns-5 t))
     (λ t. statement-opcode-lts.spec (statement-opcode-claims t) (statement-opcode-at t) statement-opcode.Post
@@ -665,7 +501,7 @@ pub +def-else+def-if-else+predicate-and-body+statement-opcode+term-list-spec :
     (statement-opcode-shared-slice-read-stmt-op t)
     (statement-opcode-stmt-op-requires t)
     (statement-opcode-enum-told t)
-    (statement-opcode-add-t12 t)
+    (statement-opcode-add-t11 t)
     (statement-opcode-enum-told-2 t)
     (statement-opcode-add-term-arg t)
     (statement-opcode-term-arg-requires t)
@@ -684,17 +520,10 @@ pub +def-else+def-if-else+predicate-and-body+statement-opcode+term-list-spec :
     (statement-opcode-returns-4 t)
     (statement-opcode-returns-5 t)
     (statement-opcode-returns-6 t))
-    λ t. term-list-lts.spec
-    (statement-opcode-below t, statement-opcode.Post)
-    (term-list-at t)
-    term-list.Post
-    term-list-Inv-loop
-    term-list-μ-loop
+    λ t. term-list-lts.spec (term-list-claims t) (term-list-at t) term-list.Post term-list-Inv-loop term-list-μ-loop
     (term-list-loop-holds t)
     (term-list-statement-opcode-requires t)
-    (term-list-enum-known-r t)
+    (term-list-returns t)
     (term-list-loop-less t)
     (term-list-loop-again t)
-    (term-list-enum-told t)
-    (term-list-returns t)
     (term-list-returns-2 t)

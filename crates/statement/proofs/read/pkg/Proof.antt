@@ -29,56 +29,43 @@ enum-known-w c = search needs
 numbered-requires : tie.Need-numbered-requires
 numbered-requires c κs = search needs
 
-add-t16 : tie.Need-add-t16
-add-t16 c = search needs
+add-place : tie.Need-add-place
+add-place c = search needs
 
-add-t17 : tie.Need-add-t17
-add-t17 c =
+add-place-2 : tie.Need-add-place-2
+add-place-2 c =
+    let a = c .before .before .before .before .before .before .before .before .args in
+    let t = drop (a .at) (a .part .now) in
+    let short : length t ≤ blockLimit = omega (arith, length-drop (a .at) (a .part .now)) in
+    let z = c .before .before .before .w .given in
+    let n = c .before .numbered .ensures in
+    let k = package-no t (a .base + a .at) short _ _ (sym (ap pkgSaid (z .1)) ∙ c .before .before .before .before .before .pkg-length .ensures ∙ ap pkgLength (tail (a .part .now) (a .at))) in
+    omega (arith, k .inside, length-drop (a .at) (a .part .now), ap (λ (x : Refusal). x .1) n)
+
+returns : tie.Need-returns
+returns c =
     let a = c .before .before .before .before .before .before .before .before .before .before .args in
     let t = drop (a .at) (a .part .now) in
     let short : length t ≤ blockLimit = omega (arith, length-drop (a .at) (a .part .now)) in
     let z = c .before .before .before .before .before .w .given in
     let n = c .before .before .before .numbered .ensures in
     let k = package-no t (a .base + a .at) short _ _ (sym (ap pkgSaid (z .1)) ∙ c .before .before .before .before .before .before .before .pkg-length .ensures ∙ ap pkgLength (tail (a .part .now) (a .at))) in
-    omega (arith, k .inside, length-drop (a .at) (a .part .now), ap (λ (x : Refusal). x .1) n)
-
-add-t19 : tie.Need-add-t19
-add-t19 c = search needs
-
-add-t20 : tie.Need-add-t20
-add-t20 c =
-    let a = c .before .before .before .before .before .before .before .before .before .before .args in
-    let t = drop (a .at) (a .part .now) in
-    let short : length t ≤ blockLimit = omega (arith, length-drop (a .at) (a .part .now)) in
-    let z = c .before .before .before .before .before .w .given in
-    let n = c .before .before .before .numbered .ensures in
-    let k = package-no t (a .base + a .at) short _ _ (sym (ap pkgSaid (z .1)) ∙ c .before .before .before .before .before .before .before .pkg-length .ensures ∙ ap pkgLength (tail (a .part .now) (a .at))) in
-    omega (arith, k .inside, length-drop (a .at) (a .part .now), ap (λ (x : Refusal). x .1) n)
+    rw (ap (λ (x : Refusal). x .1) n) (rw (sym (ap (λ (x : Refusal). x .0) n) ∙ c .if1 .taken) at (k .is))
 
 enum-known-w-2 : tie.Need-enum-known-w-2
 enum-known-w-2 c = search needs
 
-add-t23 : tie.Need-add-t23
-add-t23 c = search needs
+add-t20 : tie.Need-add-t20
+add-t20 c = search needs
 
-returns : tie.Need-returns
-returns c =
+returns-2 : tie.Need-returns-2
+returns-2 c =
     let a = c .before .before .before .before .before .before .before .before .args in
     let t = drop (a .at) (a .part .now) in
     let short : length t ≤ blockLimit = omega (arith, length-drop (a .at) (a .part .now)) in
     let z = c .before .before .before .w2 .given in
     let e = sym (ap pkgSaid (z .1)) ∙ c .before .before .before .before .before .pkg-length .ensures ∙ ap pkgLength (tail (a .part .now) (a .at)) in
     package-early t (a .base + a .at) short (z .0 .0) (z .0 .1 .0) e (c .if2 .taken)
-
-returns-2 : tie.Need-returns-2
-returns-2 c =
-    let a = c .before .before .before .before .before .before .before .before .before .before .args in
-    let t = drop (a .at) (a .part .now) in
-    let short : length t ≤ blockLimit = omega (arith, length-drop (a .at) (a .part .now)) in
-    let z = c .before .before .before .before .before .w .given in
-    let n = c .before .before .before .numbered .ensures in
-    let k = package-no t (a .base + a .at) short _ _ (sym (ap pkgSaid (z .1)) ∙ c .before .before .before .before .before .before .before .pkg-length .ensures ∙ ap pkgLength (tail (a .part .now) (a .at))) in
-    rw (ap (λ (x : Refusal). x .1) n) (rw (sym (ap (λ (x : Refusal). x .0) n) ∙ c .before .if1 .taken) at (k .is))
 
 returns-3 : tie.Need-returns-3
 returns-3 c =
@@ -88,7 +75,7 @@ returns-3 c =
     let z = c .before .before .before .before .before .w .given in
     let n = c .before .before .before .numbered .ensures in
     let k = package-no t (a .base + a .at) short _ _ (sym (ap pkgSaid (z .1)) ∙ c .before .before .before .before .before .before .before .pkg-length .ensures ∙ ap pkgLength (tail (a .part .now) (a .at))) in
-    rw (ap (λ (x : Refusal). x .1) n) (rw (k .one-or-two (λ e. c .before .if1 .left (ap (λ (x : Refusal). x .0) n ∙ e))) at (k .is))
+    rw (ap (λ (x : Refusal). x .1) n) (rw (k .one-or-two (λ e. c .if1 .left (ap (λ (x : Refusal). x .0) n ∙ e))) at (k .is))
 
 returns-4 : tie.Need-returns-4
 returns-4 c =
@@ -109,13 +96,11 @@ pkg-spec =
     pkg-length-requires
     enum-known-w
     numbered-requires
-    add-t16
-    add-t17
-    add-t19
-    add-t20
-    enum-known-w-2
-    add-t23
+    add-place
+    add-place-2
     returns
+    enum-known-w-2
+    add-t20
     returns-2
     returns-3
     returns-4)

@@ -66,33 +66,23 @@ two-claims t = (term-arg-below t, term-arg.Post, one-below t, one.Post)
 one-term-arg-requires : (t : ℕ) → one-lts.Need-term-arg-requires (one-claims t) (one-at t) one.Post
 one-term-arg-requires t c κs = search needs
 
-one-enum-told : (t : ℕ) → one-lts.Need-enum-told (one-claims t) (one-at t) one.Post
-one-enum-told t c = search needs
-
-one-enum-known-r : (t : ℕ) → one-lts.Need-enum-known-r (one-claims t) (one-at t) one.Post
-one-enum-known-r t c = search needs
-
 one-dest-requires : (t : ℕ) → one-lts.Need-dest-requires (one-claims t) (one-at t) one.Post
 one-dest-requires t c κs =
-    let c-pre = c .before .before .before .before .before .pre in
-    let c-r = c .before .r in
-    let a = c .before .before .before .before .before .args in
-    omega (arith, reaches.term-in (a .left) (a .base + a .at) (a .at) (a .part .now) (c-r .given .0 .0) (c-pre .1 .0) (sym (ap reached (c-r .given .1)) ∙ c .before .before .before .term-arg .ensures), c-pre)
+    let a = c .before .before .before .before .args in
+    let pre = c .before .before .before .before .pre in
+    let r = c .before .before .term-arg in
+    omega (arith, reaches.term-in (a .left) (a .base + a .at) (a .at) (a .part .now) (r .result .1) (pre .1 .0) (sym (reaches.goes-on (r .result) (c .if1 .left)) ∙ r .ensures), pre)
 
 one-returns : (t : ℕ) → one-lts.Need-returns (one-claims t) (one-at t) one.Post
 one-returns t c =
-    let c-enum-told = c .enum-told in
     let a = c .before .before .before .before .args in
-    ap reached (c-enum-told .given .1) ∙ reaches.one-no-term (a .left) (a .base) (a .at) (a .part .now) (a .d) _ _
-    (sym (ap reached (c-enum-told .given .1)) ∙ c .before .before .term-arg .ensures)
+    reaches.stop (c .before .before .term-arg .result) (c .if1 .taken) (reaches.one-no-term (a .left) (a .base) (a .at) (a .part .now) (a .d)) (c .before .before .term-arg .ensures)
 
 one-returns-2 : (t : ℕ) → one-lts.Need-returns-2 (one-claims t) (one-at t) one.Post
 one-returns-2 t c =
-    let c-term-arg = c .before .before .before .before .term-arg in
-    let c-r = c .before .before .r in
-    let a = c .before .before .before .before .before .before .args in
-    reaches.one-dest (a .left) (a .base) (a .at) (a .part .now) (a .d) (c-r .given .0 .0) (sym (ap reached (c-r .given .1)) ∙ c-term-arg .ensures) _
-    (c .dest .ensures)
+    let a = c .before .before .before .before .before .args in
+    let r = c .before .before .before .term-arg in
+    reaches.one-dest (a .left) (a .base) (a .at) (a .part .now) (a .d) (r .result .1) (sym (reaches.goes-on (r .result) (c .before .if1 .left)) ∙ r .ensures) _ (c .dest .ensures)
 
 term-arg-add-t10 : (t : ℕ) → term-arg-lts.Need-add-t10 (term-arg-claims t) (term-arg-at t) term-arg.Post
 term-arg-add-t10 t c = search needs
@@ -101,8 +91,8 @@ term-arg-returns : (t : ℕ) → term-arg-lts.Need-returns (term-arg-claims t) (
 term-arg-returns t c =
     let a = c .before .before .args in reaches.term-deep (a .left) (a .base) (a .at) (a .part .now) (c .if1 .taken)
 
-term-arg-add-t13 : (t : ℕ) → term-arg-lts.Need-add-t13 (term-arg-claims t) (term-arg-at t) term-arg.Post
-term-arg-add-t13 t c = search needs
+term-arg-add-t12 : (t : ℕ) → term-arg-lts.Need-add-t12 (term-arg-claims t) (term-arg-at t) term-arg.Post
+term-arg-add-t12 t c = search needs
 
 term-arg-returns-2 : (t : ℕ) → term-arg-lts.Need-returns-2 (term-arg-claims t) (term-arg-at t) term-arg.Post
 term-arg-returns-2 t c =
@@ -117,14 +107,14 @@ term-arg-term-op-requires t c κs = search needs
 term-arg-enum-told : (t : ℕ) → term-arg-lts.Need-enum-told (term-arg-claims t) (term-arg-at t) term-arg.Post
 term-arg-enum-told t c = search needs
 
-term-arg-add-t18 : (t : ℕ) → term-arg-lts.Need-add-t18 (term-arg-claims t) (term-arg-at t) term-arg.Post
-term-arg-add-t18 t c = search needs
+term-arg-add-t16 : (t : ℕ) → term-arg-lts.Need-add-t16 (term-arg-claims t) (term-arg-at t) term-arg.Post
+term-arg-add-t16 t c = search needs
 
 term-arg-enum-told-2 : (t : ℕ) → term-arg-lts.Need-enum-told-2 (term-arg-claims t) (term-arg-at t) term-arg.Post
 term-arg-enum-told-2 t c = search needs
 
-term-arg-add-t19 : (t : ℕ) → term-arg-lts.Need-add-t19 (term-arg-claims t) (term-arg-at t) term-arg.Post
-term-arg-add-t19 t c = search needs
+term-arg-add-t17 : (t : ℕ) → term-arg-lts.Need-add-t17 (term-arg-claims t) (term-arg-at t) term-arg.Post
+term-arg-add-t17 t c = search needs
 
 term-arg-enum-known-op : (t : ℕ) → term-arg-lts.Need-enum-known-op (term-arg-claims t) (term-arg-at t) term-arg.Post
 term-arg-enum-known-op t c = search needs
@@ -138,8 +128,8 @@ term-arg-bytes-requires t c κs = search needs
 term-arg-enum-told-3 : (t : ℕ) → term-arg-lts.Need-enum-told-3 (term-arg-claims t) (term-arg-at t) term-arg.Post
 term-arg-enum-told-3 t c = search needs
 
-term-arg-add-t21 : (t : ℕ) → term-arg-lts.Need-add-t21 (term-arg-claims t) (term-arg-at t) term-arg.Post
-term-arg-add-t21 t c = search needs
+term-arg-add-t19 : (t : ℕ) → term-arg-lts.Need-add-t19 (term-arg-claims t) (term-arg-at t) term-arg.Post
+term-arg-add-t19 t c = search needs
 
 term-arg-enum-told-4 : (t : ℕ) → term-arg-lts.Need-enum-told-4 (term-arg-claims t) (term-arg-at t) term-arg.Post
 term-arg-enum-told-4 t c = search needs
@@ -177,8 +167,8 @@ term-arg-two-requires t c κs = search needs
 term-arg-enum-told-5 : (t : ℕ) → term-arg-lts.Need-enum-told-5 (term-arg-claims t) (term-arg-at t) term-arg.Post
 term-arg-enum-told-5 t c = search needs
 
-term-arg-add-t27 : (t : ℕ) → term-arg-lts.Need-add-t27 (term-arg-claims t) (term-arg-at t) term-arg.Post
-term-arg-add-t27 t c = search needs
+term-arg-add-t25 : (t : ℕ) → term-arg-lts.Need-add-t25 (term-arg-claims t) (term-arg-at t) term-arg.Post
+term-arg-add-t25 t c = search needs
 
 term-arg-returns-3 : (t : ℕ) → term-arg-lts.Need-returns-3 (term-arg-claims t) (term-arg-at t) term-arg.Post
 term-arg-returns-3 t c =
@@ -255,58 +245,46 @@ term-arg-returns-10 t c =
 two-term-arg-requires : (t : ℕ) → two-lts.Need-term-arg-requires (two-claims t) (two-at t) two.Post
 two-term-arg-requires t c κs = search needs
 
-two-enum-told : (t : ℕ) → two-lts.Need-enum-told (two-claims t) (two-at t) two.Post
-two-enum-told t c = search needs
-
-two-enum-known-r : (t : ℕ) → two-lts.Need-enum-known-r (two-claims t) (two-at t) two.Post
-two-enum-known-r t c = search needs
-
 two-one-requires : (t : ℕ) → two-lts.Need-one-requires (two-claims t) (two-at t) two.Post
 two-one-requires t c κs =
-    let c-pre = c .before .before .before .before .before .pre in
-    let c-r = c .before .r in
-    let a = c .before .before .before .before .before .args in
-    omega (arith, reaches.term-in (a .left) (a .base + a .at) (a .at) (a .part .now) (c-r .given .0 .0) (c-pre .1 .0) (sym (ap reached (c-r .given .1)) ∙ c .before .before .before .term-arg .ensures), c-pre)
+    let a = c .before .before .before .before .args in
+    let pre = c .before .before .before .before .pre in
+    let r = c .before .before .term-arg in
+    omega (arith, reaches.term-in (a .left) (a .base + a .at) (a .at) (a .part .now) (r .result .1) (pre .1 .0) (sym (reaches.goes-on (r .result) (c .if1 .left)) ∙ r .ensures), pre)
 
 two-returns : (t : ℕ) → two-lts.Need-returns (two-claims t) (two-at t) two.Post
 two-returns t c =
-    let c-enum-told = c .enum-told in
     let a = c .before .before .before .before .args in
-    ap reached (c-enum-told .given .1) ∙ reaches.two-no-term (a .left) (a .base) (a .at) (a .part .now) (a .d) _ _
-    (sym (ap reached (c-enum-told .given .1)) ∙ c .before .before .term-arg .ensures)
+    reaches.stop (c .before .before .term-arg .result) (c .if1 .taken) (reaches.two-no-term (a .left) (a .base) (a .at) (a .part .now) (a .d)) (c .before .before .term-arg .ensures)
 
 two-returns-2 : (t : ℕ) → two-lts.Need-returns-2 (two-claims t) (two-at t) two.Post
 two-returns-2 t c =
-    let c-term-arg = c .before .before .before .before .term-arg in
-    let c-r = c .before .before .r in
-    let a = c .before .before .before .before .before .before .args in
-    reaches.two-one (a .left) (a .base) (a .at) (a .part .now) (a .d) (c-r .given .0 .0) (sym (ap reached (c-r .given .1)) ∙ c-term-arg .ensures) _
-    (c .one .ensures)
+    let a = c .before .before .before .before .before .args in
+    let r = c .before .before .before .term-arg in
+    reaches.two-one (a .left) (a .base) (a .at) (a .part .now) (a .d) (r .result .1) (sym (reaches.goes-on (r .result) (c .before .if1 .left)) ∙ r .ensures) _ (c .one .ensures)
 
 pub +one+term-arg+two-spec : {M : Type 1} → statement M
 +one+term-arg+two-spec = close μ-one μ-term-arg μ-two (λ t. one-lts.spec (one-claims t) (one-at t) one.Post
     (one-term-arg-requires t)
-    (one-enum-told t)
-    (one-enum-known-r t)
-    (one-dest-requires t)
     (one-returns t)
+    (one-dest-requires t)
     (one-returns-2 t))
     (λ t. term-arg-lts.spec (term-arg-claims t) (term-arg-at t) term-arg.Post
     (term-arg-add-t10 t)
     (term-arg-returns t)
-    (term-arg-add-t13 t)
+    (term-arg-add-t12 t)
     (term-arg-returns-2 t)
     (term-arg-shared-slice-read-term-op t)
     (term-arg-term-op-requires t)
     (term-arg-enum-told t)
-    (term-arg-add-t18 t)
+    (term-arg-add-t16 t)
     (term-arg-enum-told-2 t)
-    (term-arg-add-t19 t)
+    (term-arg-add-t17 t)
     (term-arg-enum-known-op t)
     (term-arg-add-bytes t)
     (term-arg-bytes-requires t)
     (term-arg-enum-told-3 t)
-    (term-arg-add-t21 t)
+    (term-arg-add-t19 t)
     (term-arg-enum-told-4 t)
     (term-arg-add-cell t)
     (term-arg-cell-requires t)
@@ -319,7 +297,7 @@ pub +one+term-arg+two-spec : {M : Type 1} → statement M
     (term-arg-sub-two t)
     (term-arg-two-requires t)
     (term-arg-enum-told-5 t)
-    (term-arg-add-t27 t)
+    (term-arg-add-t25 t)
     (term-arg-returns-3 t)
     (term-arg-returns-4 t)
     (term-arg-returns-5 t)
@@ -333,8 +311,6 @@ pub +one+term-arg+two-spec : {M : Type 1} → statement M
     (two-at t)
     two.Post
     (two-term-arg-requires t)
-    (two-enum-told t)
-    (two-enum-known-r t)
-    (two-one-requires t)
     (two-returns t)
+    (two-one-requires t)
     (two-returns-2 t)

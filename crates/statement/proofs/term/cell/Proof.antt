@@ -19,11 +19,11 @@ shared-slice-read-is-cell c = search needs
 is-cell-requires : tie.Need-is-cell-requires
 is-cell-requires c κs = search needs
 
+add-t11 : tie.Need-add-t11
+add-t11 c = search needs
+
 add-t12 : tie.Need-add-t12
 add-t12 c = search needs
-
-add-t13 : tie.Need-add-t13
-add-t13 c = search needs
 
 returns-2 : tie.Need-returns-2
 returns-2 c =
@@ -41,7 +41,7 @@ cell-spec =
     returns
     shared-slice-read-is-cell
     is-cell-requires
+    add-t11
     add-t12
-    add-t13
     returns-2
     returns-3)

@@ -15,8 +15,8 @@ returns c =
 shared-slice-read-if2 : tie.Need-shared-slice-read-if2
 shared-slice-read-if2 c = search needs
 
-add-t10 : tie.Need-add-t10
-add-t10 c = search needs
+add-t9 : tie.Need-add-t9
+add-t9 c = search needs
 
 returns-2 : tie.Need-returns-2
 returns-2 c =
@@ -32,4 +32,4 @@ returns-3 c =
 pub target-spec : {M : Type 1} → statement M
 target-spec =
     tie.close
-    (tie.spec add-t6 returns shared-slice-read-if2 add-t10 returns-2 cell-requires returns-3)
+    (tie.spec add-t6 returns shared-slice-read-if2 add-t9 returns-2 cell-requires returns-3)
