@@ -10,6 +10,7 @@ use Rattle.statement.specs.Frames.{fresh, held, wrote}
 use Rattle.statement.specs.declared.frame.Frame.{Frame}
 use Rattle.klem_c.specs.Result.{resultWords, resultOf, valued, one, flag, sized, After, leaves, answers}
 
+-- KLEM_FRAME: the words of a frame
 abbrev pub frameSize : ℕ
 frameSize = 30
 

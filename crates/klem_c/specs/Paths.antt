@@ -12,6 +12,7 @@ use Rattle.path.specs.Normal.{absolute, isNormal, oneSegment, normal, resolved,
 use Rattle.path.specs.Text.{Wrote, wrote, fromText, textWithin}
 use Rattle.klem_c.specs.Result.{resultWords, resultOf, valued, nothing, one, flag, sized, After, leaves, answers}
 
+-- KLEM_PATH: the bytes of a path
 abbrev pub pathSize : ℕ
 pathSize = 129
 
@@ -20,6 +21,16 @@ pathAt bs = record { count = getD bs 0 0; bytes = drop 1 bs }
 
 abbrev pub pathBytes : AmlName → List ℕ
 pathBytes name = name .count ∷ name .bytes
+
+-- the slices of a call: its result and one path, two, or three, `out` counted
+abbrev pub fitsPath : List ℕ → List ℕ → Bool
+fitsPath result a = sized resultWords result && sized pathSize a
+
+abbrev pub fitsTwo : List ℕ → List ℕ → List ℕ → Bool
+fitsTwo result a b = sized resultWords result && (sized pathSize a && sized pathSize b)
+
+abbrev pub fitsThree : List ℕ → List ℕ → List ℕ → List ℕ → Bool
+fitsThree result a b c = sized resultWords result && (sized pathSize a && (sized pathSize b && sized pathSize c))
 
 -- the path that is given; a refusal leaves `out` as it was
 abbrev pub outOf : {A : Type 0} → List ℕ → Answer (Named A) → List ℕ
@@ -31,14 +42,14 @@ abbrev pub names : {A : Type 0} → Bool → List ℕ → List ℕ → (A → Li
 names fit result out f a = leaves fit result out (resultOf (valued (λ v. f (v .value)) a)) (outOf out a)
 
 unfoldable pub klemNameString : List ℕ → List ℕ → List ℕ → After
-klemNameString input out result = names (sized resultWords result && sized pathSize out) result out one (nameString componentLimit input)
+klemNameString input out result = names (fitsPath result out) result out one (nameString componentLimit input)
 
 -- a call that gives a path alone
 abbrev pub paths : Bool → List ℕ → List ℕ → Answer (List Component) → After
 paths fit result out a = names fit result out nothing (alone a)
 
 unfoldable pub klemRoot : List ℕ → List ℕ → After
-klemRoot out result = paths (sized resultWords result && sized pathSize out) result out (gives (root ∷ []))
+klemRoot out result = paths (fitsPath result out) result out (gives (root ∷ []))
 
 unfoldable pub klemFromNameSeg : List ℕ → List ℕ → List ℕ → After
 klemFromNameSeg seg out result = paths (sized resultWords result && (sized pathSize out && sized 4 seg)) result out (segmentPath seg)
@@ -48,7 +59,7 @@ klemFromComponents count bytes out result =
     paths (sized resultWords result && (sized pathSize out && sized 128 bytes)) result out (pathIn componentLimit (record { count = count; bytes = bytes }))
 
 unfoldable pub klemFromStr : List ℕ → List ℕ → List ℕ → After
-klemFromStr text out result = paths (sized resultWords result && sized pathSize out) result out (fromText componentLimit text)
+klemFromStr text out result = paths (fitsPath result out) result out (fromText componentLimit text)
 
 -- the text goes to the start of what is lent, and the value is its length
 abbrev pub texts : Bool → List ℕ → List ℕ → Wrote → After
@@ -56,13 +67,13 @@ texts fit result text w = leaves fit result text (resultOf (valued one (w .said)
 
 unfoldable pub klemAsString : List ℕ → List ℕ → List ℕ → After
 klemAsString path text result =
-    texts (sized resultWords result && sized pathSize path) result text
+    texts (fitsPath result path) result text
     (wrote text (andThen (pathIn componentLimit (pathAt path)) (textWithin (length text))))
 
 -- a test of a path
 abbrev pub tests : (List Component → Bool) → List ℕ → List ℕ → After
 tests f path result =
-    answers (sized resultWords result && sized pathSize path) result
+    answers (fitsPath result path) result
     (valued (λ b. one (flag b)) (andThen (pathIn componentLimit (pathAt path)) (λ cs. gives (f cs))))
 
 unfoldable pub klemIsNormal : List ℕ → List ℕ → After
@@ -77,7 +88,7 @@ klemSearchRulesApply path result = tests oneSegment path result
 -- a path made of a path
 abbrev pub makes : (List Component → Answer (List Component)) → List ℕ → List ℕ → List ℕ → After
 makes f path out result =
-    paths (sized resultWords result && (sized pathSize out && sized pathSize path)) result out (andThen (pathIn componentLimit (pathAt path)) f)
+    paths (fitsTwo result out path) result out (andThen (pathIn componentLimit (pathAt path)) f)
 
 unfoldable pub klemNormalize : List ℕ → List ℕ → List ℕ → After
 klemNormalize path out result = makes (normal componentLimit) path out result
@@ -87,5 +98,5 @@ klemParent path out result = makes (parentOf componentLimit) path out result
 
 unfoldable pub klemResolve : List ℕ → List ℕ → List ℕ → List ℕ → After
 klemResolve path scope out result =
-    paths (sized resultWords result && (sized pathSize out && (sized pathSize path && sized pathSize scope))) result out
+    paths (fitsThree result out path scope) result out
     (andThen (pathIn componentLimit (pathAt path)) (λ cs. andThen (pathIn componentLimit (pathAt scope)) (λ ss. resolved componentLimit cs ss)))

@@ -42,6 +42,7 @@ flag b = pick b 1 0
 abbrev pub sized : ℕ → List ℕ → Bool
 sized n xs = eqb (length xs) n
 
+-- what a call returns, its result, and what else it was lent: `out`, a text, the table or a frame; nothing where there is none
 pub record After : Type 0 where
   pub number : ℕ
   pub result : List ℕ

@@ -1,6 +1,6 @@
 -- The calls on a table. The length of a table is no fixed slice's: the layer below refuses it by 24.
 use Prim.Native.Nat.{ℕ}
-use mathlib.Core.Bool.{Bool, _&&_}
+use mathlib.Core.Bool.{Bool}
 use mathlib.Core.List.{List, [], _∷_}
 use lib.Dec.{leb, eqb}
 use Rattle.pkg_length.specs.Refusal.{Answer, gives, refuses, pick}
@@ -12,7 +12,7 @@ use Rattle.namespace.specs.Search.{searchCall, levelCall}
 use Rattle.namespace.specs.declared.LevelType.{LevelType}
 use Rattle.namespace.specs.declared.LevelType.the-variants.{Scope, Device, Processor, PowerResource, ThermalZone, MethodLocals}
 use Rattle.klem_c.specs.Result.{resultWords, resultOf, valued, nothing, one, sized, After, leaves, answers}
-use Rattle.klem_c.specs.Paths.{pathSize, pathAt, names}
+use Rattle.klem_c.specs.Paths.{pathAt, fitsPath, fitsTwo, fitsThree, names}
 
 -- KLEM_BAD_TYPE: a level's type is over 5
 abbrev pub badType : ℕ
@@ -38,17 +38,6 @@ lefts fit result table f l = leaves fit result table (resultOf (valued f (l .sai
 -- a call that is lent the table
 abbrev pub edits : {A : Type 0} → Bool → List ℕ → List ℕ → (A → List ℕ) → Answer (Edited A) → After
 edits fit result table f a = lefts fit result table f (left limits table a)
-
--- the slices of a call with one path
-abbrev pub fitsPath : List ℕ → List ℕ → Bool
-fitsPath result path = sized resultWords result && sized pathSize path
-
--- of a call with two, or with a path and `out`
-abbrev pub fitsTwo : List ℕ → List ℕ → List ℕ → Bool
-fitsTwo result a b = sized resultWords result && (sized pathSize a && sized pathSize b)
-
-abbrev pub fitsThree : List ℕ → List ℕ → List ℕ → List ℕ → Bool
-fitsThree result a b c = sized resultWords result && (sized pathSize a && (sized pathSize b && sized pathSize c))
 
 unfoldable pub klemNew : List ℕ → List ℕ → After
 klemNew table result = edits (sized resultWords result) result table nothing (newCall limits table)
