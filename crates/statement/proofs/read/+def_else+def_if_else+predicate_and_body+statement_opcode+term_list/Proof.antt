@@ -140,65 +140,109 @@ def-else-pkg-requires t c κs = search needs
 
 def-else-returns-3 : (t : ℕ) → def-else-lts.Need-returns-3 (def-else-claims t) (def-else-at t) def-else.Post
 def-else-returns-3 t c =
-    let a = c .before .before .before .before .before .before .before .before .args in
-    reaches.package-stop (c .before .before .before .pkg .result) (c .if3 .taken) (reaches.else-no-package (a .left) (a .base) (a .at) (a .part .now) (c .before .before .before .before .before .before .if1 .left) (c .before .before .before .before .if2 .left)) (c .before .before .before .pkg .ensures)
+    let c3 = c .before .before .before in
+    let c4 = c3 .before in
+    let c6 = c4 .before .before in
+    let c8 = c6 .before .before in
+    let a = c8 .args in
+    reaches.package-stop (c3 .pkg .result) (c .if3 .taken) (reaches.else-no-package (a .left) (a .base) (a .at) (a .part .now) (c6 .if1 .left) (c4 .if2 .left)) (c3 .pkg .ensures)
 
 def-else-add-body : (t : ℕ) → def-else-lts.Need-add-body (def-else-claims t) (def-else-at t) def-else.Post
 def-else-add-body t c = search needs
 
 def-else-add-body-2 : (t : ℕ) → def-else-lts.Need-add-body-2 (def-else-claims t) (def-else-at t) def-else.Post
 def-else-add-body-2 t c =
-    let a = c .before .before .before .before .before .before .before .before .before .args in
-    omega (arith, reaches.package-within (c .before .before .before .before .pkg .result) (c .before .if3 .left) (a .base + (a .at + 1)) (a .at + 1) (a .part .now) (c .before .before .before .before .pkg .ensures) (omega (arith, c .before .before .before .before .before .before .before .if1 .left)), c .before .before .before .before .before .before .before .before .before .pre .1)
+    let c4 = c .before .before .before .before in
+    let c7 = c4 .before .before .before in
+    let c9 = c7 .before .before in
+    let a = c9 .args in
+    omega (arith, reaches.package-within (c4 .pkg .result) (c .before .if3 .left) (a .base + (a .at + 1)) (a .at + 1) (a .part .now) (c4 .pkg .ensures) (omega (arith, c7 .if1 .left)), c9 .pre .1)
 
 def-else-add-end : (t : ℕ) → def-else-lts.Need-add-end (def-else-claims t) (def-else-at t) def-else.Post
 def-else-add-end t c = search needs
 
 def-else-add-end-2 : (t : ℕ) → def-else-lts.Need-add-end-2 (def-else-claims t) (def-else-at t) def-else.Post
 def-else-add-end-2 t c =
-    let a = c .before .before .before .before .before .before .before .before .before .before .args in
-    omega (arith, reaches.package-within (c .before .before .before .before .before .pkg .result) (c .before .before .if3 .left) (a .base + (a .at + 1)) (a .at + 1) (a .part .now) (c .before .before .before .before .before .pkg .ensures) (omega (arith, c .before .before .before .before .before .before .before .before .if1 .left)), c .before .before .before .before .before .before .before .before .before .before .pre .1)
+    let c5 = c .before .before .before .before .before in
+    let c8 = c5 .before .before .before in
+    let c10 = c8 .before .before in
+    let a = c10 .args in
+    omega (arith, reaches.package-within (c5 .pkg .result) (c .before .before .if3 .left) (a .base + (a .at + 1)) (a .at + 1) (a .part .now) (c5 .pkg .ensures) (omega (arith, c8 .if1 .left)), c10 .pre .1)
 
 def-else-sub-term-list : (t : ℕ) → def-else-lts.Need-sub-term-list (def-else-claims t) (def-else-at t) def-else.Post
 def-else-sub-term-list t c =
-    let a = c .before .before .before .before .before .before .before .before .before .before .args in
-    omega (arith, reaches.package-within (c .before .before .before .before .before .pkg .result) (c .before .before .if3 .left) (a .base + (a .at + 1)) (a .at + 1) (a .part .now) (c .before .before .before .before .before .pkg .ensures) (omega (arith, c .before .before .before .before .before .before .before .before .if1 .left)), c .before .before .before .before .before .before .before .before .before .before .pre .1)
+    let c5 = c .before .before .before .before .before in
+    let c8 = c5 .before .before .before in
+    let c10 = c8 .before .before in
+    let a = c10 .args in
+    omega (arith, reaches.package-within (c5 .pkg .result) (c .before .before .if3 .left) (a .base + (a .at + 1)) (a .at + 1) (a .part .now) (c5 .pkg .ensures) (omega (arith, c8 .if1 .left)), c10 .pre .1)
 
 def-else-part-term-list-start : (t : ℕ) → def-else-lts.Need-part-term-list-start (def-else-claims t) (def-else-at t) def-else.Post
 def-else-part-term-list-start t c =
-    let a = c .before .before .before .before .before .before .before .before .before .before .args in
-    omega (arith, reaches.package-within (c .before .before .before .before .before .pkg .result) (c .before .before .if3 .left) (a .base + (a .at + 1)) (a .at + 1) (a .part .now) (c .before .before .before .before .before .pkg .ensures) (omega (arith, c .before .before .before .before .before .before .before .before .if1 .left)), c .before .before .before .before .before .before .before .before .before .before .pre .1)
+    let c5 = c .before .before .before .before .before in
+    let c8 = c5 .before .before .before in
+    let c10 = c8 .before .before in
+    let a = c10 .args in
+    omega (arith, reaches.package-within (c5 .pkg .result) (c .before .before .if3 .left) (a .base + (a .at + 1)) (a .at + 1) (a .part .now) (c5 .pkg .ensures) (omega (arith, c8 .if1 .left)), c10 .pre .1)
 
 def-else-part-term-list-end : (t : ℕ) → def-else-lts.Need-part-term-list-end (def-else-claims t) (def-else-at t) def-else.Post
 def-else-part-term-list-end t c =
-    let a = c .before .before .before .before .before .before .before .before .before .before .args in
-    omega (arith, reaches.package-within (c .before .before .before .before .before .pkg .result) (c .before .before .if3 .left) (a .base + (a .at + 1)) (a .at + 1) (a .part .now) (c .before .before .before .before .before .pkg .ensures) (omega (arith, c .before .before .before .before .before .before .before .before .if1 .left)), c .before .before .before .before .before .before .before .before .before .before .pre .1)
+    let c5 = c .before .before .before .before .before in
+    let c8 = c5 .before .before .before in
+    let c10 = c8 .before .before in
+    let a = c10 .args in
+    omega (arith, reaches.package-within (c5 .pkg .result) (c .before .before .if3 .left) (a .base + (a .at + 1)) (a .at + 1) (a .part .now) (c5 .pkg .ensures) (omega (arith, c8 .if1 .left)), c10 .pre .1)
 
 def-else-add-term-list : (t : ℕ) → def-else-lts.Need-add-term-list (def-else-claims t) (def-else-at t) def-else.Post
 def-else-add-term-list t c =
-    let a = c .before .before .before .before .before .before .before .before .before .before .before .args in
-    omega (arith, reaches.package-within (c .before .before .before .before .before .before .pkg .result) (c .before .before .before .if3 .left) (a .base + (a .at + 1)) (a .at + 1) (a .part .now) (c .before .before .before .before .before .before .pkg .ensures) (omega (arith, c .before .before .before .before .before .before .before .before .before .if1 .left)), c .before .before .before .before .before .before .before .before .before .before .before .pre .1)
+    let c3 = c .before .before .before in
+    let c6 = c3 .before .before .before in
+    let c9 = c6 .before .before .before in
+    let c11 = c9 .before .before in
+    let a = c11 .args in
+    omega (arith, reaches.package-within (c6 .pkg .result) (c3 .if3 .left) (a .base + (a .at + 1)) (a .at + 1) (a .part .now) (c6 .pkg .ensures) (omega (arith, c9 .if1 .left)), c11 .pre .1)
 
 def-else-term-list-requires : (t : ℕ) → def-else-lts.Need-term-list-requires (def-else-claims t) (def-else-at t) def-else.Post
 def-else-term-list-requires t c κs =
-    let a = c .before .before .before .before .before .before .before .before .before .before .before .args in
-    let n = c .before .before .before .before .before .before .pkg .result .0 .1 in
-    let b = a .at + 1 + c .before .before .before .before .before .before .pkg .result .1 in
-    omega (arith, reaches.package-within (c .before .before .before .before .before .before .pkg .result) (c .before .before .before .if3 .left) (a .base + (a .at + 1)) (a .at + 1) (a .part .now) (c .before .before .before .before .before .before .pkg .ensures) (omega (arith, c .before .before .before .before .before .before .before .before .before .if1 .left)), c .before .before .before .before .before .before .before .before .before .before .before .pre, length-take (a .at + 1 + n - b) (drop b (a .part .now)), length-drop b (a .part .now))
+    let c3 = c .before .before .before in
+    let c6 = c3 .before .before .before in
+    let c9 = c6 .before .before .before in
+    let c11 = c9 .before .before in
+    let a = c11 .args in
+    let n = c6 .pkg .result .0 .1 in
+    let b = a .at + 1 + c6 .pkg .result .1 in
+    omega (
+      arith,
+      reaches.package-within (c6 .pkg .result) (c3 .if3 .left) (a .base + (a .at + 1)) (a .at + 1) (a .part .now) (c6 .pkg .ensures) (omega (arith, c9 .if1 .left)),
+      c11 .pre,
+      length-take (a .at + 1 + n - b)
+          (drop b (a .part .now)),
+      length-drop b (a .part .now),
+    )
 
 def-else-returns-4 : (t : ℕ) → def-else-lts.Need-returns-4 (def-else-claims t) (def-else-at t) def-else.Post
 def-else-returns-4 t c =
-    let a = c .before .before .before .before .before .before .before .before .before .before .before .before .before .before .args in
-    let w = c .before .before .before .before .before .before .before .before .before .pkg .result in
-    let ew = sym (reaches.package-goes-on w (c .before .before .before .before .before .before .if3 .left)) ∙ c .before .before .before .before .before .before .before .before .before .pkg .ensures in
-    reaches.stop (c .before .before .term-list .result) (c .if4 .taken) (reaches.else-no-body (a .left) (a .base) (a .at) (a .part .now) (c .before .before .before .before .before .before .before .before .before .before .before .before .if1 .left) (c .before .before .before .before .before .before .before .before .before .before .if2 .left) (w .0 .1) (w .1) ew) (c .before .before .term-list .ensures)
+    let c6 = c .before .before .before .before .before .before in
+    let c9 = c6 .before .before .before in
+    let c10 = c9 .before in
+    let c12 = c10 .before .before in
+    let c14 = c12 .before .before in
+    let a = c14 .args in
+    let w = c9 .pkg .result in
+    let ew = sym (reaches.package-goes-on w (c6 .if3 .left)) ∙ c9 .pkg .ensures in
+    reaches.stop (c .before .before .term-list .result) (c .if4 .taken) (reaches.else-no-body (a .left) (a .base) (a .at) (a .part .now) (c12 .if1 .left) (c10 .if2 .left) (w .0 .1) (w .1) ew) (c .before .before .term-list .ensures)
 
 def-else-returns-5 : (t : ℕ) → def-else-lts.Need-returns-5 (def-else-claims t) (def-else-at t) def-else.Post
 def-else-returns-5 t c =
-    let a = c .before .before .before .before .before .before .before .before .before .before .before .before .before .before .args in
-    let w = c .before .before .before .before .before .before .before .before .before .pkg .result in
-    let ew = sym (reaches.package-goes-on w (c .before .before .before .before .before .before .if3 .left)) ∙ c .before .before .before .before .before .before .before .before .before .pkg .ensures in
-    reaches.else-body (a .left) (a .base) (a .at) (a .part .now) (c .before .before .before .before .before .before .before .before .before .before .before .before .if1 .left) (c .before .before .before .before .before .before .before .before .before .before .if2 .left) (w .0 .1) (w .1) ew _ (sym (reaches.goes-on (c .before .before .term-list .result) (c .if4 .left)) ∙ c .before .before .term-list .ensures)
+    let c6 = c .before .before .before .before .before .before in
+    let c9 = c6 .before .before .before in
+    let c10 = c9 .before in
+    let c12 = c10 .before .before in
+    let c14 = c12 .before .before in
+    let a = c14 .args in
+    let w = c9 .pkg .result in
+    let ew = sym (reaches.package-goes-on w (c6 .if3 .left)) ∙ c9 .pkg .ensures in
+    reaches.else-body (a .left) (a .base) (a .at) (a .part .now) (c12 .if1 .left) (c10 .if2 .left) (w .0 .1) (w .1) ew _ (sym (reaches.goes-on (c .before .before .term-list .result) (c .if4 .left)) ∙ c .before .before .term-list .ensures)
 
 def-if-else-predicate-and-body-requires : (t : ℕ) → def-if-else-lts.Need-predicate-and-body-requires (def-if-else-claims t) (def-if-else-at t) def-if-else.Post
 def-if-else-predicate-and-body-requires t c κs = search needs
@@ -250,9 +294,12 @@ predicate-and-body-returns-2 t c =
 
 predicate-and-body-add-end : (t : ℕ) → predicate-and-body-lts.Need-add-end (predicate-and-body-claims t) (predicate-and-body-at t) predicate-and-body.Post
 predicate-and-body-add-end t c =
-    let a = c .before .before .before .before .before .before .before .before .before .before .args in
-    let w = c .before .before .before .before .before .before .before .before .pkg .result in
-    omega (arith, reaches.package-within w (c .before .before .before .before .before .if1 .left) (a .base + a .at) (a .at) (a .part .now) (c .before .before .before .before .before .before .before .before .pkg .ensures) (c .before .before .before .before .before .before .before .before .before .before .pre .1 .0), c .before .before .before .before .before .before .before .before .before .before .pre .1)
+    let c5 = c .before .before .before .before .before in
+    let c8 = c5 .before .before .before in
+    let c10 = c8 .before .before in
+    let a = c10 .args in
+    let w = c8 .pkg .result in
+    omega (arith, reaches.package-within w (c5 .if1 .left) (a .base + a .at) (a .at) (a .part .now) (c8 .pkg .ensures) (c10 .pre .1 .0), c10 .pre .1)
 
 predicate-and-body-add-t13 : (t : ℕ) → predicate-and-body-lts.Need-add-t13 (predicate-and-body-claims t) (predicate-and-body-at t) predicate-and-body.Post
 predicate-and-body-add-t13 t c = search needs
@@ -272,25 +319,47 @@ predicate-and-body-part-term-list-start t c =
 
 predicate-and-body-part-term-list-end : (t : ℕ) → predicate-and-body-lts.Need-part-term-list-end (predicate-and-body-claims t) (predicate-and-body-at t) predicate-and-body.Post
 predicate-and-body-part-term-list-end t c =
-    let a = c .before .before .before .before .before .before .before .before .before .before .before .args in
-    let w = c .before .before .before .before .before .before .before .before .before .pkg .result in
-    omega (arith, reaches.package-within w (c .before .before .before .before .before .before .if1 .left) (a .base + a .at) (a .at) (a .part .now) (c .before .before .before .before .before .before .before .before .before .pkg .ensures) (c .before .before .before .before .before .before .before .before .before .before .before .pre .1 .0))
+    let c6 = c .before .before .before .before .before .before in
+    let c9 = c6 .before .before .before in
+    let c11 = c9 .before .before in
+    let a = c11 .args in
+    let w = c9 .pkg .result in
+    omega (arith, reaches.package-within w (c6 .if1 .left) (a .base + a .at) (a .at) (a .part .now) (c9 .pkg .ensures) (c11 .pre .1 .0))
 
 predicate-and-body-add-term-list : (t : ℕ) → predicate-and-body-lts.Need-add-term-list (predicate-and-body-claims t) (predicate-and-body-at t) predicate-and-body.Post
 predicate-and-body-add-term-list t c =
-    let a = c .before .before .before .before .before .before .before .before .before .before .before .before .args in
-    let w = c .before .before .before .before .before .before .before .before .before .before .pkg .result in
-    let t = c .before .before .before .before .before .term-arg .result in
-    let pk = reaches.package-within w (c .before .before .before .before .before .before .before .if1 .left) (a .base + a .at) (a .at) (a .part .now) (c .before .before .before .before .before .before .before .before .before .before .pkg .ensures) (c .before .before .before .before .before .before .before .before .before .before .before .before .pre .1 .0) in
-    omega (arith, reaches.term-in depthLimit (a .base + (a .at + w .1)) (a .at + w .1) (a .part .now) (t .1) (omega (arith, pk)) (sym (reaches.goes-on t (c .before .before .before .if2 .left)) ∙ c .before .before .before .before .before .term-arg .ensures), c .before .before .before .before .before .before .before .before .before .before .before .before .pre .1)
+    let c3 = c .before .before .before in
+    let c5 = c3 .before .before in
+    let c7 = c5 .before .before in
+    let c10 = c7 .before .before .before in
+    let c12 = c10 .before .before in
+    let a = c12 .args in
+    let w = c10 .pkg .result in
+    let t = c5 .term-arg .result in
+    let pk = reaches.package-within w (c7 .if1 .left) (a .base + a .at) (a .at) (a .part .now) (c10 .pkg .ensures) (c12 .pre .1 .0) in
+    omega (arith, reaches.term-in depthLimit (a .base + (a .at + w .1)) (a .at + w .1) (a .part .now) (t .1) (omega (arith, pk)) (sym (reaches.goes-on t (c3 .if2 .left)) ∙ c5 .term-arg .ensures), c12 .pre .1)
 
 predicate-and-body-term-list-requires : (t : ℕ) → predicate-and-body-lts.Need-term-list-requires (predicate-and-body-claims t) (predicate-and-body-at t) predicate-and-body.Post
 predicate-and-body-term-list-requires t c κs =
-    let a = c .before .before .before .before .before .before .before .before .before .before .before .before .args in
-    let w = c .before .before .before .before .before .before .before .before .before .before .pkg .result in
-    let t = c .before .before .before .before .before .term-arg .result in
-    let pk = reaches.package-within w (c .before .before .before .before .before .before .before .if1 .left) (a .base + a .at) (a .at) (a .part .now) (c .before .before .before .before .before .before .before .before .before .before .pkg .ensures) (c .before .before .before .before .before .before .before .before .before .before .before .before .pre .1 .0) in
-    omega (arith, pk, reaches.term-in depthLimit (a .base + (a .at + w .1)) (a .at + w .1) (a .part .now) (t .1) (omega (arith, pk)) (sym (reaches.goes-on t (c .before .before .before .if2 .left)) ∙ c .before .before .before .before .before .term-arg .ensures), c .before .if3 .left, c .before .before .before .before .before .before .before .before .before .before .before .before .pre, length-take (a .at + w .0 .1 - t .1) (drop (t .1) (a .part .now)), length-drop (t .1) (a .part .now))
+    let c3 = c .before .before .before in
+    let c5 = c3 .before .before in
+    let c7 = c5 .before .before in
+    let c10 = c7 .before .before .before in
+    let c12 = c10 .before .before in
+    let a = c12 .args in
+    let w = c10 .pkg .result in
+    let t = c5 .term-arg .result in
+    let pk = reaches.package-within w (c7 .if1 .left) (a .base + a .at) (a .at) (a .part .now) (c10 .pkg .ensures) (c12 .pre .1 .0) in
+    omega (
+      arith,
+      pk,
+      reaches.term-in depthLimit (a .base + (a .at + w .1)) (a .at + w .1) (a .part .now) (t .1) (omega (arith, pk))
+          (sym (reaches.goes-on t (c3 .if2 .left)) ∙ c5 .term-arg .ensures),
+      c .before .if3 .left,
+      c12 .pre,
+      length-take (a .at + w .0 .1 - t .1) (drop (t .1) (a .part .now)),
+      length-drop (t .1) (a .part .now),
+    )
 
 predicate-and-body-returns-4 : (t : ℕ) → predicate-and-body-lts.Need-returns-4 (predicate-and-body-claims t) (predicate-and-body-at t) predicate-and-body.Post
 predicate-and-body-returns-4 t c =
@@ -428,8 +497,11 @@ term-list-statement-opcode-requires t c κs = search needs
 
 term-list-returns : (t : ℕ) → term-list-lts.Need-returns (term-list-claims t) (term-list-at t) term-list.Post term-list-Inv-loop term-list-μ-loop
 term-list-returns t c =
-    let a = c .before .before .before .before .before .before .args in
-    reaches.stop (c .before .before .statement-opcode .result) (c .if1 .taken) (reaches.list-stop (a .left) (a .base) (c .before .before .before .before .loop .at) (a .part .now) (c .before .before .before .loop-test .taken)) (c .before .before .statement-opcode .ensures) ∙ sym (c .before .before .before .before .loop .inv .1)
+    let c3 = c .before .before .before in
+    let c4 = c3 .before in
+    let c6 = c4 .before .before in
+    let a = c6 .args in
+    reaches.stop (c .before .before .statement-opcode .result) (c .if1 .taken) (reaches.list-stop (a .left) (a .base) (c4 .loop .at) (a .part .now) (c3 .loop-test .taken)) (c .before .before .statement-opcode .ensures) ∙ sym (c4 .loop .inv .1)
 
 term-list-loop-less : (t : ℕ) → term-list-lts.Need-loop-less (term-list-claims t) (term-list-at t) term-list.Post term-list-Inv-loop term-list-μ-loop
 term-list-loop-less t c =
