@@ -3,10 +3,14 @@
 
   oracle/compare.py KLEM ORACLE [--full] [--seed N] [--sample FILE]
 
-KLEM is the port's program, ORACLE the shell that oracle/build makes. Without --full some 1.3 million calls are made; with it, all inputs of
-up to 3 bytes too. An answer is equal, or both sides refuse, or the call is outside the compared domain (and why is counted), or the
-difference is one of docs/DIFFERENCES.md, by its label; any other difference is printed and fails the run.
---sample writes some thousands of the compared calls with the port's answers, for the gate to replay with no Rust at hand.
+KLEM is the port's program, ORACLE the shell that oracle/build makes. Without --full some 1.5 million calls are made; with it, all inputs of
+up to 3 bytes too. An answer is equal, or both sides refuse (a run that ends in 23: with the same cells), or the call is outside the compared domain
+(and why is counted), or the difference is one of docs/DIFFERENCES.md; any other difference is printed and fails the run. A difference has a label only
+if the port's answer is what oracle/model.py's reading of 01 gives and the Rust's is what its model of the Rust gives, and that model met the difference.
+A run that spends its budget has no counterpart in the Rust, which has none: the terms that were evaluated before that moment, one after the other, are
+given to the Rust, and the cells must be the same.
+Besides, every answer of the port but those to the exhaustive inputs of 3 bytes is held to the reading of 01 (places, units and scopes asked included).
+--sample writes some thousands of calls on which the two agreed, with the answers, for the gate to replay with no Rust at hand.
 """
 import argparse
 import collections
@@ -18,9 +22,11 @@ import sys
 
 sys.path.insert(0, os.path.dirname(os.path.abspath(__file__)))
 import generate as g
+import model
 
-EDITS = ("level ", "remove ", "value ", "value-at ", "alias ", "set ")
+EDITS = ("level ", "remove ", "value ", "value-at ", "alias ", "set ", "set-object ")
 STRIP = re.compile(r" (?:units|asked) \d+")
+AGREED = ("equal", "both refuse", "both refuse, same cells")
 
 
 def run(program, lines):
@@ -33,83 +39,94 @@ def run(program, lines):
 
 
 def outside(line, port):
-    """why a call is not compared, or None: 01 compares within the limits, blocks that the check accepts, runs within their budget"""
+    """why a call is not compared, or None: 01 compares within the limits, blocks that the check accepts"""
     if port.startswith(("refused 9 ", "refused 5 ", "refused 18 ", "refused 19 ", "refused 20 ")):
         return "over a limit"
-    if port.startswith("refused 26 "):
+    if port.startswith("refused 26 ") and not line.startswith("seg "):
         return "no path"
-    if line.startswith("run") and port.startswith("refused 22 "):
-        return "budget spent"
-    if line.startswith("run") and port.startswith("refused ") and not port.startswith("refused 23 "):
+    if line.startswith("run ") and port.startswith("refused ") and not port.startswith(("refused 22 ", "refused 23 ")):
         return "block refused"
     return None
 
 
-def label(line, port, rust):
-    """the entry of docs/DIFFERENCES.md that a difference belongs to, or None"""
-    w = line.split(" ")
-    bent = lambda p: p.startswith("\\") and "^" in p
-    if w[0] == "run":
-        if "A0" in w[2] and rust.startswith("error UnexpectedEndOfStream"):
-            return "if-ends-part"
-        if "92" in w[2] and rust.startswith("error UnexpectedByte(146)"):
-            return "lnot-alone"
-    if w[0] == "resolve" and (bent(w[1]) or bent_memory(w[1])):
-        return "absolute-not-normalised"
-    if w[0] in ("value-at", "search") and bent(w[1]):
-        return "absolute-not-normalised"
-    if w[0] == "alias" and (bent(w[1]) or bent(w[3])):
-        return "absolute-not-normalised"
-    if w[0] == "handle" and not w[1].startswith("\\"):
-        return "relative-lookup"
-    if w[0] == "handle" and bent(w[1]):
-        return "lookup-not-normalised"
-    if w[0] == "search" and w[1].startswith("\\") and port.startswith(("refused 10 ", "refused 11 ")):
-        return "scope-ignored"
-    return None
+def to_rust(line, rust_line, port):
+    """the line that the Rust is sent, or None where there is nothing to compare"""
+    if not line.startswith("run "):
+        return rust_line
+    if port.startswith("refused 22 "):
+        return model.unrolled(line)
+    return None if outside(line, port) else rust_line
 
 
-def bent_memory(p):
-    return p.startswith("=") and ":5C000000" in p and "5E000000" in p
+def known(line, rust_line, port, rust, paper):
+    """the labels of docs/DIFFERENCES.md that a difference belongs to, or None; `paper` has the table before the call"""
+    r = model.Rust(paper.table)
+    told = r.answer(rust_line)
+    if told is None or not r.met or not (rust == told or told.startswith("error ") and " cells " not in told and rust.startswith(told)):
+        return None
+    return "+".join(sorted(r.met))
+
+
+def verdict(line, rust_line, port, rust, paper):
+    """one of AGREED, `outside: ..`, `difference ..` or UNMATCHED"""
+    if line.startswith("run ") and port.startswith("refused 22 "):
+        return "cells at 22 equal" if rust.startswith("finished ") and model.cells_of(port) == model.cells_of(rust) else "UNMATCHED"
+    if STRIP.sub("", port) == rust:
+        return "equal"
+    if rust == "panic":
+        return "outside: the Rust panics"
+    if port.startswith("refused") and rust.startswith("error"):
+        if not line.startswith("run "):
+            return "both refuse"
+        if model.cells_of(port) == model.cells_of(rust):
+            return "both refuse, same cells"
+    if outside(line, port):
+        return "outside: " + outside(line, port)
+    label = known(line, rust_line, port, rust, paper)
+    return "difference " + label if label else "UNMATCHED"
 
 
 class Count:
-    def __init__(self):
+    def __init__(self, read_again):
         self.n = collections.Counter()
         self.unmatched = []
         self.sample = []
+        self.read_again = read_again
 
     def batch(self, pairs, keep=0.0, r=None):
+        """`keep` is the part of the calls on which the two agreed that goes into the sample; of a table's calls, all until the two tables differ"""
         ports = run(ARGS.klem, [a for a, _ in pairs])
-        kept = [(a, b, p) for (a, b), p in zip(pairs, ports) if not (a.startswith("run") and outside(a, p))]
-        rusts = run(ARGS.oracle, [("-" if p.startswith("refused") else "+") + b for _, b, p in kept])
-        self.n["calls"] += len(pairs)
-        self.n["outside: block refused or budget spent"] += len(pairs) - len(kept)
-        apart = False
-        for (line, _, port), rust in zip(kept, rusts):
-            plain = STRIP.sub("", port)
+        sent = [(a, to_rust(a, b, p), p) for (a, b), p in zip(pairs, ports)]
+        rusts = iter(run(ARGS.oracle, [("-" if p.startswith("refused") else "+") + b for _, b, p in sent if b]))
+        paper, apart = model.Paper(), False
+        for line, rust_line, port in sent:
+            self.n["calls"] += 1
             if line == "new":
                 apart = False
-            if apart:
-                self.n["outside: the tables differ since a known difference"] += 1
-                continue
-            apart = line.startswith(EDITS) and port.startswith("ok") and not rust.startswith("ok")
-            if plain == rust:
-                self.n["equal"] += 1
-            elif port.startswith("refused") and rust.startswith("error"):
-                self.n["both refuse"] += 1
-            elif rust == "panic":
-                self.n["outside: the Rust panics"] += 1
-            elif outside(line, port):
-                self.n["outside: " + outside(line, port)] += 1
-            elif label(line, port, rust):
-                self.n["difference " + label(line, port, rust)] += 1
+            if rust_line is None:
+                said = "outside: block refused"
             else:
-                self.n["UNMATCHED"] += 1
-                if len(self.unmatched) < 20:
-                    self.unmatched.append((line, port, rust))
-        if keep:
-            self.sample += [(a, p) for (a, _), p in zip(pairs, ports) if len(a) < 400 and r.random() < keep]
+                rust = next(rusts)
+                said = "outside: the tables differ since a known difference" if apart else verdict(line, rust_line, port, rust, paper)
+                apart = apart or line.startswith(EDITS) and port.startswith("ok") and not rust.startswith("ok")
+            self.n[said] += 1
+            if said == "UNMATCHED":
+                self.unmatched.append((line, port, "Rust " + rust))
+            if self.read_again or said.startswith("difference"):
+                self.hold(line, port, paper.answer(line))
+            if keep and said in AGREED and len(line) < 400 and (r is None or r.random() < keep):
+                self.sample.append((line, port))
+
+    def hold(self, line, port, read):
+        """the port's answer to the reading of 01"""
+        self.n["as 01 reads" if port == read else "UNMATCHED"] += 1
+        if port != read:
+            self.unmatched.append((line, port, "01   " + read))
+
+    def add(self, other):
+        self.n.update(other.n)
+        self.unmatched += other.unmatched
+        self.sample += other.sample
 
 
 def batches(pairs, size=200000):
@@ -129,38 +146,38 @@ def main():
     sources = [
         ("packages of up to %d bytes" % most, g.packages(most), .002),
         ("names of up to %d bytes" % most, g.names(most), .002),
-        ("blocks of up to %d bytes" % most, g.blocks(most), .01),
-        ("paths of up to 3 components", g.paths_exhaustive(), .05),
+        ("blocks of up to %d bytes" % most, g.blocks(most), .5),
+        ("raw lengths of up to 2 bytes", g.raws(2), .002),
+        ("fits and still parsing", g.lengths(), .2),
+        ("characters and segments", g.chars(), .2),
+        ("components", g.components(), .5),
+        ("paths of up to 3 components", g.paths_exhaustive(), .2),
         ("packages", g.random_packages(r, 200000), .001),
-        ("names", g.random_names(r, 200000), .002),
-        ("texts", g.random_texts(r, 200000), .002),
-        ("blocks from trees", g.random_blocks(r, 200000), .003),
+        ("names", g.random_names(r, 200000), .003),
+        ("texts", g.random_texts(r, 200000), .003),
+        ("blocks from trees", g.random_blocks(r, 200000), .005),
     ]
-    total = Count()
+    total = Count(True)
     for name, pairs, keep in sources:
-        c = Count()
+        whole = name.endswith("up to 3 bytes")
+        c = Count(not whole)
         for b in batches(pairs):
-            c.batch(b, keep if not (ARGS.full and most == 3) else keep / 200, r)
+            c.batch(b, keep / 200 if whole else keep, r)
         report(name, c)
-        total.n.update(c.n)
-        total.unmatched += c.unmatched
-        total.sample += c.sample
-    c = Count()
-    for _ in range(10):
-        c.batch(list(g.table_calls(r, 40000)))
+        total.add(c)
+    c = Count(True)
+    for i in range(10):
+        c.batch(list(g.table_calls(r, 40000)), i == 0)
+    c.sample = c.sample[:3000]
     report("table calls", c)
-    total.n.update(c.n)
-    total.unmatched += c.unmatched
+    total.add(c)
     report("ALL", total)
     if ARGS.sample:
-        calls = list(g.table_calls(random.Random(ARGS.seed), 3000))
-        total.sample += [(a, p) for (a, _), p in zip(calls, run(ARGS.klem, [a for a, _ in calls]))]
-        with open(ARGS.sample + ".in", "w", errors="surrogateescape") as f:
-            f.write("".join(a + "\n" for a, _ in total.sample))
-        with open(ARGS.sample + ".out", "w", errors="surrogateescape") as f:
-            f.write("".join(p + "\n" for _, p in total.sample))
-    for line, port, rust in total.unmatched[:20]:
-        print("UNMATCHED %s\n  port %s\n  Rust %s" % (line[:300], port[:300], rust[:300]))
+        for ending, column in ((".in", 0), (".out", 1)):
+            with open(ARGS.sample + ending, "w", errors="surrogateescape") as f:
+                f.write("".join(row[column] + "\n" for row in total.sample))
+    for line, port, other in total.unmatched[:20]:
+        print("UNMATCHED %s\n  port %s\n  %s" % (line[:300], port[:300], other[:300]))
     sys.exit(1 if total.unmatched else 0)
 
 

@@ -35,6 +35,33 @@ def blocks(most):
     return (same("run 60 " + hexed(t) + " 0=5 8=7") for t in all_bytes(most))
 
 
+def raws(most):
+    return (same("raw " + hexed(t)) for t in all_bytes(most))
+
+
+def lengths():
+    """fitting a raw length, and "still parsing", around each other and around the limits"""
+    sizes = list(range(6)) + [62, 63, 64, 65, 4095, 4096, 65535, 65536, 65537, 99999, 100000]
+    for n in sizes:
+        for k in sizes + [1048575, 2 ** 31, 2 ** 32 - 1]:
+            yield same("fit %d %d" % (n, k))
+            yield same("still %d %d" % (k, n))
+
+
+def chars():
+    yield same("root")
+    for c in range(256):
+        yield same("char %02X" % c)
+        for k in range(4):
+            yield same("seg " + hexed([0x41] * k + [c] + [0x5F] * (3 - k)))
+
+
+def components():
+    for p in small_paths():
+        count, mem = p[1:].split(":")
+        yield same("components %s %s" % (count, mem or "-"))
+
+
 def small_paths():
     """all paths of up to 3 components over two segments, as memory, so that every order of kinds is met"""
     kinds = ["5C000000", "5E000000", "41414141", "42424242"]
@@ -95,7 +122,7 @@ def random_packages(r, n):
     for _ in range(n):
         size = r.choice([1, 2, 3, 4, 5, 15, 62, 63, 64, 65, 255, 256, 4000])
         lead = r.choice([r.randrange(64), 0x40 | r.randrange(16), 0x80 | r.randrange(64), 0xC0 | r.randrange(16), 0x70])
-        yield same("pkg " + hexed([lead] + [r.choice([0, 0, 1, 4, 15, 16, r.randrange(256)]) for _ in range(size - 1)]))
+        yield same(r.choice(["pkg ", "pkg ", "raw "]) + hexed([lead] + [r.choice([0, 0, 1, 4, 15, 16, r.randrange(256)]) for _ in range(size - 1)]))
 
 
 def random_texts(r, n):
@@ -142,8 +169,12 @@ def table_calls(r, n):
             line = "get %d" % r.randrange(made + 2)
         elif k < .62:
             line = "set %d %d" % (r.randrange(made + 2), r.getrandbits(64))
-        elif k < .72:
+        elif k < .68:
             line = "handle " + r.choice([absolute(r), path_text(r)])
+        elif k < .72:
+            line = "object " + r.choice([absolute(r), path_text(r)])
+        elif k < .75:
+            line = "set-object %s %d" % (r.choice([absolute(r), path_text(r)]), r.getrandbits(64))
         elif k < .9:
             line = "search %s %s" % (r.choice(["A", "B", "C", path_text(r)]), r.choice([absolute(r, 5), path_text(r)]))
         else:
@@ -257,4 +288,5 @@ def random_blocks(r, n):
         if r.random() < .15:
             port = rust = damaged(r, port)
         tail = (" " + cells).rstrip()
-        yield "run 3000 " + hexed(port) + tail, "run 3000 " + hexed(rust) + tail
+        budget = "run %d " % r.choice([3000, 3000, 3000, r.randrange(40)])
+        yield budget + hexed(port) + tail, budget + hexed(rust) + tail
