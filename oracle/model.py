@@ -278,7 +278,10 @@ class Paper:
         return "ok \\"
 
     def seg(self, h):
-        return self.components("1", h)
+        p = from_memory(1, unhexed(h))
+        if len(p[0]) != 4:
+            raise Refused(26)
+        return "ok " + shown(p)
 
     def components(self, count, h):
         p = from_memory(int(count), unhexed(h))

@@ -3,12 +3,14 @@
 
   scripts/make.py            from the repository's root
 
-Three parts, in this order:
+Four parts, in this order:
 1. document 01's cases that are not in crate `cases`, and its impostors' inputs: the answers are the paper's, written here by hand beside each line;
 2. every limit: the answers follow from the limit, by the rules in this file, not from the program;
-3. the replay: calls that were compared with the Rust (oracle/compare.py --sample), with the answers that agreed (scripts/replay.in, replay.out).
+3. the shell's own words: its help is the list of docs/KLEM.md;
+4. the replay: calls on which the port and the Rust agreed (oracle/compare.py --sample), with those answers (scripts/replay.in, replay.out).
 """
 import os
+import re
 
 out = []
 
@@ -42,6 +44,23 @@ def paper():
     note("document 01: package lengths")
     case("pkg 7004" + "00" * 62, "ok raw 64 end 0 used 2")
     case("pkg 00", "ok raw 0 end 1 used 1")
+    case("raw 7004", "ok raw 64 used 2")
+    case("raw 3F", "ok raw 63 used 1")
+    case("raw CFFFFFFF", "ok raw %d used 4" % (2 ** 28 - 1))
+    case("raw 41", refused(1, 1))
+    case("raw -", refused(1, 0))
+    note("the end offset is the length minus the raw length; still parsing: what remains is more than the end offset")
+    case("fit 64 64", "ok raw 64 end 0")
+    case("fit 64 0", "ok raw 0 end 64")
+    case("fit 63 64", refused(2))
+    case("fit 0 18446744073709551615", refused(2))
+    case("still 3 4", "ok 1")
+    case("still 3 3", "ok 0")
+    case("still 18446744073709551615 100000", "ok 0")
+    note("a lead is A-Z or _, a name character a lead or a digit")
+    for c in "/09:@AZ[^_`a":
+        lead, digit = c in "AZ_", c in "09"
+        case("char %02X" % ord(c), "ok lead %d digit %d name %d" % (lead, digit, lead or digit))
     note("names and paths")
     case("name 5C2F00", "ok \\ used 3")
     case("name 30", refused(6, 0))
@@ -55,6 +74,14 @@ def paper():
     case("resolve X Y", refused(11))
     case("write \\A 5", "ok \\A___")
     case("write \\A 4", refused(25))
+    case("root", "ok \\")
+    case("seg 50434930", "ok PCI0")
+    case("seg 30434950", refused(26))
+    case("seg 5C000000", refused(26))
+    case("components 2 5C00000050434930", "ok \\PCI0")
+    case("components 0 -", "ok (empty)")
+    case("components 1 5C00000050434930", refused(26))
+    case("components 2 504349305C000000", refused(26))
     note("control blocks")
     case("check A00200A100", refused(2, 4))
     case("check 60", refused(3, 0))
@@ -71,7 +98,7 @@ def paper():
     case("run 9 7560 0=18446744073709551615", ran("finished", 1, c0=0))
     case("run 9 7660 0=0", ran("finished", 1, c0=18446744073709551615))
     case("run 9 72FF0A0260", ran("finished", 1, c0=1))
-    case("run 9 A493000000", ran("finished", 1) if False else refused(3, 4) + " units 0 cells " + cells())
+    case("run 9 A493000000", refused(3, 4) + " units 0 cells " + cells())
     case("run 9 A4930000", ran("returned 18446744073709551615", 1))
     case("run 9 A494FF00", ran("returned 18446744073709551615", 1))
     case("run 9 A4920A05", ran("returned 0", 1))
@@ -181,17 +208,51 @@ def limits_of_budget():
 
 def wrong_lines():
     note("lines that are no command")
-    count = lambda: sum(1 for _ in out) + 1
-    case("foo", "? %d no such command" % count())
-    case("pkg", "? %d no such command" % count())
-    case("pkg 0", "? %d bad hex" % count())
-    case("pkg 0G", "? %d bad hex" % count())
-    case("write \\A x", "? %d bad number" % count())
-    case("normal =x:", "? %d bad path" % count())
-    case("run 1 A3 15=1", "? %d bad cell" % count())
+
+    def wrong(line, why):
+        case(line, "? %d %s" % (len(out) + 1, why))
+
+    wrong("foo", "no such command")
+    wrong("pkg", "wants pkg HEX")
+    wrong("pkg 00 00", "wants pkg HEX")
+    wrong("new 1", "wants new")
+    wrong("level \\A", "wants level PATH TYPE")
+    wrong("run 1", "wants run BUDGET HEX [CELL=NUMBER ..]")
+    wrong("help foo", "no such command")
+    wrong("pkg 0", "bad hex")
+    wrong("pkg 0G", "bad hex")
+    wrong("char -", "wants 1 byte")
+    wrong("seg 414243", "wants 4 bytes")
+    wrong("components 1 " + "00" * 129, "bad hex")
+    wrong("fit 100001 1", "length over 100000")
+    wrong("write \\A x", "bad number")
+    wrong("write \\A 0x", "bad number")
+    wrong("write \\A 0x10000000000000000", "bad number")
+    wrong("get 18446744073709551616", "bad number")
+    wrong("level \\A 6", "bad type")
+    wrong("normal =x:", "bad path")
+    wrong("run 1 A3 15=1", "bad cell")
+    wrong("poke 1153 0", "no such word")
     out.append(("", None))
-    case("x" * 200000, "? %d no such command" % count())
-    case("x" * 200001, "? %d line over 200000 bytes" % count())
+    out.append(("  \t", None))
+    wrong("x" * 200000, "no such command")
+    wrong("x" * 200001, "line over 200000 bytes")
+    note("blanks and a carriage return at the end are dropped; numbers may be hexadecimal")
+    case("pkg 00  \t", "ok raw 0 end 1 used 1")
+    case("text \\A\r", "ok \\A___")
+    case("run 0x9 a460 0=0xfF\r", ran("returned 255", 1, c0=255))
+    case("normal =0x1:50434930", "ok PCI0")
+
+
+def helped():
+    """the commands as docs/KLEM.md lists them"""
+    page = open(HERE + "/../docs/KLEM.md").read()
+    listed = re.search(r"<!-- commands -->\n```\n(.*?)```\n<!-- end of commands -->", page, re.S).group(1)
+    usages = [row.split("  ")[0] for row in listed.splitlines()]
+    note("the help is what docs/KLEM.md lists")
+    case("help", "ok " + " ".join(u.split(" ")[0] for u in usages))
+    for u in usages:
+        case("help " + u.split(" ")[0], "ok " + u)
 
 
 WORDS = 1153
@@ -246,21 +307,50 @@ def tables():
     for line, answer in [("level A 0", refused(11)), ("level \\^A 0", refused(10)), ("level \\ 5", "ok"), ("level \\Q.R 0", refused(15, 1)), ("level \\A.Q.R 0", refused(15, 2)),
                          ("level \\A.B 5", "ok"), ("remove A", refused(11)), ("remove \\", refused(14)), ("remove \\A.Q", refused(15, 2)), ("remove \\Q.R", refused(15, 1)),
                          ("value X 1", refused(11)), ("value \\ 1", refused(13)), ("value \\Q.X 1", refused(15, 1)), ("value \\A.X 1", refused(17)), ("handle X", refused(11)),
+                         ("object X", refused(11)), ("object \\^X", refused(10)), ("object \\", refused(13)), ("object \\Q.X", refused(15, 1)), ("object \\A.Y", refused(16)),
+                         ("set-object X 1", refused(11)), ("set-object \\^X 1", refused(10)), ("set-object \\ 1", refused(13)), ("set-object \\Q.X 1", refused(15, 1)), ("set-object \\A.Y 1", refused(16)),
                          ("handle \\", refused(13)), ("handle \\Q.X", refused(15, 1)), ("handle \\A.Y", refused(16)), ("get 2", refused(21)), ("set 2 1", refused(21)),
                          ("value-at X A 1", refused(11)), ("value-at ^^X \\A 1", refused(10)), ("alias Y \\A Z", refused(16)), ("alias X \\A ^X", refused(17)),
                          ("alias \\ \\A X", refused(13)), ("alias Y \\A \\", refused(13)), ("alias \\Q.Y \\A X", refused(15, 1))]:
         case(line, answer)
-    case("digest", "ok %d" % digest(words))
+        case("digest", "ok %d" % digest(words))
     case("alias Y \\A ^X", "ok handle 0")
     case("handle \\A.Y", "ok handle 0")
     case("value-at ^Z \\A.B 7", "ok handle 2")
     case("set 2 8", "ok")
     case("get 2", "ok 8")
+    case("object \\A.X", "ok 6")
+    case("set-object \\A.Z 9", "ok")
+    case("get 2", "ok 9")
+    case("object \\A.Z", "ok 9")
     note("removing frees levels and bindings; objects stay")
     case("remove \\A", "ok")
     case("get 1", "ok 6")
     case("handle \\A.X", refused(15, 1))
-    case("digest", "ok %d" % digest(table_words([(1, 0, 1, 0)], [(segment("X"), 0)], [5, 6, 8])))
+    case("digest", "ok %d" % digest(table_words([(1, 0, 1, 0)], [(segment("X"), 0)], [5, 6, 9])))
+    note("one segment may be a level and a binding")
+    case("new", "ok")
+    case("level \\A 2", "ok")
+    case("value \\A 5", "ok handle 0")
+    case("value \\A.A 6", "ok handle 1")
+    both = table_words([(1, 0, 1, 0), (2, 2, 1, segment("A"))], [(segment("A"), 0), (segment("A"), 1)], [5, 6])
+    case("digest", "ok %d" % digest(both))
+    case("handle \\A", "ok handle 0")
+    case("search A \\A", "ok \\A___.A___ handle 1 asked 1")
+    case("search-level A \\A", "ok \\A___ asked 2")
+    case("value \\A 7", refused(17))
+    case("digest", "ok %d" % digest(both))
+    case("remove \\A", "ok")
+    case("object \\A", "ok 5")
+    case("handle \\A.A", refused(15, 1))
+    case("search A \\A", "ok \\A___ handle 0 asked 2")
+    case("digest", "ok %d" % digest(table_words([(1, 0, 1, 0)], [(segment("A"), 0)], [5, 6])))
+
+
+def kept(line, answer, words):
+    """a refused edit, and the table's memory as it was"""
+    case(line, answer)
+    case("digest", "ok %d" % digest(words))
 
 
 def table_limits():
@@ -269,31 +359,76 @@ def table_limits():
     case("new", "ok")
     for i in range(127):
         case("level \\%s 0" % name(i), "ok")
-    case("level \\%s 0" % name(127), refused(18))
+    full = table_words([(1, 0, 0, 0)] + [(2, 0, 0, segment(name(i))) for i in range(127)], [], [])
+    kept("level \\%s 0" % name(127), refused(18), full)
     case("level \\%s 3" % name(5), "ok")
+    case("digest", "ok %d" % digest(full))
     case("remove \\%s" % name(0), "ok")
     case("level \\%s 0" % name(127), "ok")
-    case("level \\%s 0" % name(0), refused(18))
+    kept("level \\%s 0" % name(0), refused(18), table_words([(1, 0, 0, 0)] + [(2, 0, 0, segment(name(i))) for i in range(1, 128)], [], []))
     note("511, 512 and 513 bindings and objects")
     case("new", "ok")
     case("level \\A 0", "ok")
     for i in range(512):
         case("value %s%s %d" % ("\\A." if i % 2 else "\\", name(i), i), "ok handle %d" % i)
-    case("value \\%s 1" % name(512), refused(19))
-    case("alias \\%s \\ %s" % (name(512), name(0)), refused(19))
+    at = lambda odd: [(segment(name(i)), i) for i in range(odd, 512, 2)]
+    full = table_words([(1, 0, 256, 0), (2, 0, 256, segment("A"))], at(0) + at(1), list(range(512)))
+    kept("value \\%s 1" % name(512), refused(19), full)
+    kept("alias \\%s \\ %s" % (name(512), name(0)), refused(19), full)
     case("remove \\A", "ok")
-    case("value \\%s 1" % name(512), refused(20))
+    kept("value \\%s 1" % name(512), refused(20), table_words([(1, 0, 256, 0)], at(0), list(range(512))))
     case("alias \\%s \\ %s" % (name(512), name(0)), "ok handle 0")
-    note("31 and 32 components: the deepest level holds no binding, and a scope of 32 holds none")
+    deepest()
+    damaged()
+
+
+def chain(n, bound=(), values=()):
+    """n levels, one in the other, the root among them; `bound` are the ranks that hold a binding of X"""
+    levels = [(rank, 0, int(rank in bound), segment("D") if rank > 1 else 0) for rank in range(1, n + 1)]
+    return table_words(levels, [(segment("X"), 0) for _ in bound], list(values))
+
+
+def deepest():
+    note("31 and 32 components: the deepest level holds no binding and no level, and a scope of 32 holds none")
     case("new", "ok")
-    path = ""
+    path = "\\"
     for i in range(31):
-        path += (".D" if path else "\\D")
+        path += (".D" if i else "D")
         case("level %s 0" % path, "ok")
-    case("level %s.D 0" % path, refused(9))
-    case("value %s.X 0" % path, refused(9))
     case("value \\X 0", "ok handle 0")
+    words = chain(32, (1,), (0,))
+    case("digest", "ok %d" % digest(words))
+    kept("level %s.D 0" % path, refused(9), words)
+    kept("value %s.X 0" % path, refused(9), words)
+    kept("value-at X %s 0" % path, refused(9), words)
+    kept("alias Y %s \\X" % path, refused(9), words)
+    kept("alias \\Y %s X" % path, refused(9), words)
+    case("search ^D.X %s" % path, refused(9))
     case("search X %s" % path, "ok \\X___ handle 0 asked 32")
+    case("search-level D %s" % path, "ok \\%s asked 2" % ".".join(["D___"] * 31))
+    case("value-at ^X %s 7" % path, "ok handle 1")
+    case("search X %s" % path, "ok \\%s.X___ handle 1 asked 2" % ".".join(["D___"] * 30))
+
+
+CALLS = ("level \\B 0", "remove \\A", "value \\Y 1", "value-at Y \\ 1", "alias Y \\ \\A.X", "get 0", "set 0 1", "handle \\A.X", "object \\A.X", "set-object \\A.X 1", "search X \\A",
+         "search-level A \\")
+
+
+def poked(good, bad, answers):
+    """pokes the words in which the two differ, asks each call, sees the memory as it was, and pokes the good words back"""
+    differ = [i for i in range(WORDS) if good[i] != bad[i]]
+    for i in differ:
+        case("poke %d %d" % (i, bad[i]), "ok")
+    for line, answer in answers:
+        kept(line, answer, bad)
+    for i in differ:
+        case("poke %d %d" % (i, good[i]), "ok")
+
+
+REFUSED = [("well-formed", "ok 0")] + [(line, refused(24)) for line in CALLS]
+
+
+def damaged():
     note("memory that is damaged at each kind of word: 24, and it stays as it is")
     case("new", "ok")
     case("level \\A 1", "ok")
@@ -302,30 +437,37 @@ def table_limits():
     case("digest", "ok %d" % digest(good))
     for index, word in [(0, 0), (0, ROOT + 1), (0, ROOT | 1 << 42), (1, good[1] + (1 << 45)), (1, good[1] | 6 << 42), (1, good[1] + (1 << 32)), (1, good[1] - (1 << 32)), (1, good[1] - 0x5F), (2, 1),
                         (127, 1), (128, 0), (128, good[128] + 1), (128, good[128] | 0x80 << 56), (129, good[128]), (639, 1), (640, 0), (640, 513), (642, 1), (1152, 1)]:
-        case("poke %d %d" % (index, word), "ok")
         bad = list(good)
         bad[index] = word
-        for line in ("level \\B 0", "remove \\A", "value \\Y 1", "value-at Y \\ 1", "alias Y \\ \\A.X", "get 0", "set 0 1", "handle \\A.X", "search X \\A", "search-level A \\"):
-            case(line, refused(24))
-        case("digest", "ok %d" % digest(bad))
-        case("poke %d %d" % (index, good[index]), "ok")
+        poked(good, bad, REFUSED)
     case("digest", "ok %d" % digest(good))
     case("search X \\A", "ok \\A___.X___ handle 0 asked 1")
+    note("ranks, siblings and bindings: the good neighbour of each damage is taken")
+    levels = lambda *ls: [(1, 0, 0, 0)] + [(r, 0, n, segment(s)) for r, n, s in ls]
+    bound = lambda *ss: [(segment(s), 0) for s in ss]
+    for taken, why in [
+            (chain(32, (31,), (9,)), None), (chain(32, (32,), (9,)), "a binding at rank 32"), (chain(32, (), (9,)), None), (chain(33, (), (9,)), "rank 33"),
+            (table_words(levels((2, 0, "A"), (2, 0, "B")), [], [9]), None), (table_words(levels((2, 0, "A"), (2, 0, "A")), [], [9]), "twin siblings"),
+            (table_words(levels((2, 0, "B"), (2, 0, "A")), [], [9]), "falling siblings"), (table_words(levels((2, 0, "A"), (3, 0, "A")), [], [9]), None),
+            (table_words(levels((2, 0, "A"), (4, 0, "A")), [], [9]), "a rank that jumps"),
+            (table_words(levels((2, 2, "A")), bound("X", "Y"), [9]), None), (table_words(levels((2, 2, "A")), bound("X", "X"), [9]), "twin bindings"),
+            (table_words(levels((2, 2, "A")), bound("Y", "X"), [9]), "falling bindings"), (table_words(levels((2, 1, "A"), (2, 1, "B")), bound("Y", "X"), [9]), None)]:
+        note(why or "well-formed")
+        poked(good, taken, REFUSED if why else [("well-formed", "ok 1"), ("get 0", "ok 9")])
+    case("digest", "ok %d" % digest(good))
 
 
-PARTS = [paper, limits_of_lengths, limits_of_components, limits_of_depth, limits_of_budget, tables, table_limits, wrong_lines]
+PARTS = [paper, limits_of_lengths, limits_of_components, limits_of_depth, limits_of_budget, tables, table_limits, wrong_lines, helped]
+HERE = os.path.dirname(os.path.abspath(__file__))
 
 
 def main():
     for part in PARTS:
         part()
-    here = os.path.dirname(os.path.abspath(__file__))
-    if os.path.exists(here + "/replay.in"):
-        note("the replay")
-        asked = open(here + "/replay.in", errors="surrogateescape").read().split("\n")[:-1]
-        told = open(here + "/replay.out", errors="surrogateescape").read().split("\n")[:-1]
-        out.extend(zip(asked, told))
-    base = here + "/../crates/klem/"
+    note("the replay")
+    asked, told = (open(HERE + "/replay" + ending, errors="surrogateescape").read().split("\n")[:-1] for ending in (".in", ".out"))
+    out.extend(zip(asked, told))
+    base = HERE + "/../crates/klem/"
     with open(base + "stdin", "w", errors="surrogateescape") as f:
         f.write("".join(a + "\n" for a, _ in out))
     with open(base + "stdout", "w", errors="surrogateescape") as f:
