@@ -1,6 +1,6 @@
 /* How much stack the calls need. Each call is made on a stack of its own that was filled with a pattern; what is no longer pattern
  * behind the call was used. It prints the most for each group, this program's own frame of the call counted in, and fails where a call
- * needs more than the 16 KiB that a kernel's stack has at least. Linux alone: it needs ucontext. */
+ * needs more than bindings/README.md says. Linux alone: it needs ucontext. */
 #include <stdio.h>
 #include <stdlib.h>
 #include <string.h>
@@ -9,7 +9,8 @@
 #include "klem.h"
 
 #define ROOM 65536
-#define MOST 16384
+#define MOST 6700       /* any call, as bindings/README.md has it */
+#define MOST_TABLE 2100 /* any call but a check or a run */
 
 static uint8_t stack[ROOM] __attribute__((aligned(64)));
 static ucontext_t here, there;
@@ -48,39 +49,46 @@ static void removes(void) { klem_remove_level(table, KLEM_TABLE, a, KLEM_PATH, r
 static void checks(void) { klem_check(block, block_len, r, KLEM_RESULT); }
 static void runs(void) { klem_run(block, block_len, frame, KLEM_FRAME, 1000, r, KLEM_RESULT); }
 
-/* the deepest block: 15 Ifs, one in the other, around a Return of a term of depth 16 */
-static void deepest(void) {
-    uint8_t body[4096];
-    size_t n = 17, i;
-    body[0] = 0xA4;
-    memset(body + 1, 0x92, 15);
-    body[16] = 0x01;
-    for (i = 0; i < 15; i++) {
-        size_t size = n + 1 < 63 ? n + 2 : n + 3;
-        size_t at = 0;
-        uint8_t whole[4096];
-        whole[at++] = 0xA0;
-        if (size < 64) {
-            whole[at++] = (uint8_t)size;
-        } else {
-            whole[at++] = (uint8_t)(0x40 | (size & 15));
-            whole[at++] = (uint8_t)(size >> 4);
-        }
-        whole[at++] = 0x01;
-        memcpy(whole + at, body, n);
-        n += at;
-        memcpy(body, whole, n);
+/* puts a package around the n bytes of body: its length, at the front; the new number of bytes */
+static size_t packed(uint8_t *body, size_t n) {
+    size_t extra = n + 1 < 64 ? 1 : 2;
+    memmove(body + extra, body, n);
+    n += extra;
+    if (extra == 1) {
+        body[0] = (uint8_t)n;
+    } else {
+        body[0] = (uint8_t)(0x40 | (n & 15));
+        body[1] = (uint8_t)(n >> 4);
     }
-    memcpy(block, body, n);
+    return n;
+}
+
+/* the deepest block: 15 Ifs, one in the other, around an If whose predicate is a term of depth 16 */
+static void deepest(void) {
+    size_t n = 16, i;
+    memset(block, 0x92, 15);
+    block[15] = 0x01;
+    for (i = 0; i < 16; i++) {
+        if (i > 0) {
+            memmove(block + 1, block, n++);
+            block[0] = 0x01;
+        }
+        n = packed(block, n);
+        memmove(block + 1, block, n++);
+        block[0] = 0xA0;
+    }
     block_len = n;
 }
 
-static size_t most;
+static int failed;
 
-static void say(const char *what, void (*call)(void)) {
+static void say(const char *what, void (*call)(void), size_t most) {
     size_t n = used_by(call);
-    if (n > most) most = n;
     printf("  %-16s %5u bytes\n", what, (unsigned)n);
+    if (n > most) {
+        fprintf(stderr, "stack: %s takes %u bytes, and bindings/README.md says %u\n", what, (unsigned)n, (unsigned)most);
+        failed = 1;
+    }
 }
 
 int main(void) {
@@ -89,32 +97,27 @@ int main(void) {
     klem_frame_new(frame, KLEM_FRAME, r, KLEM_RESULT);
     klem_from_str((const uint8_t *)"\\AAAA", 5, a, KLEM_PATH, r, KLEM_RESULT);
     klem_from_str((const uint8_t *)"BBBB", 4, b, KLEM_PATH, r, KLEM_RESULT);
-    /* once, so that what the loader does at a first call is not counted */
     used_by(runs);
-    if (r[0] != 0 || r[2] != 1 || r[4] != 16) {
+    if (r[0] != 0 || r[2] != 0 || r[4] != 16) {
         fprintf(stderr, "stack: the deepest block does not run\n");
         return 1;
     }
     printf("stack, with what it takes to start a context:\n");
-    say("nothing", nothing);
-    say("package length", lengths);
-    say("name", names);
-    say("text", texts);
-    say("text written", written);
-    say("resolve", resolved);
-    say("parent", parents);
-    say("add level", levels);
-    say("add value", values);
-    say("add alias", aliases);
-    say("search", searches);
-    say("search level", level_searches);
-    say("set by path", gets);
-    say("remove level", removes);
-    say("check, depth 16", checks);
-    say("run, depth 16", runs);
-    if (most > MOST) {
-        fprintf(stderr, "stack: %u bytes, and %u should do\n", (unsigned)most, MOST);
-        return 1;
-    }
-    return 0;
+    say("nothing", nothing, MOST_TABLE);
+    say("package length", lengths, MOST_TABLE);
+    say("name", names, MOST_TABLE);
+    say("text", texts, MOST_TABLE);
+    say("text written", written, MOST_TABLE);
+    say("resolve", resolved, MOST_TABLE);
+    say("parent", parents, MOST_TABLE);
+    say("add level", levels, MOST_TABLE);
+    say("add value", values, MOST_TABLE);
+    say("add alias", aliases, MOST_TABLE);
+    say("search", searches, MOST_TABLE);
+    say("search level", level_searches, MOST_TABLE);
+    say("set by path", gets, MOST_TABLE);
+    say("remove level", removes, MOST_TABLE);
+    say("check, depth 16", checks, MOST);
+    say("run, depth 16", runs, MOST);
+    return failed;
 }
