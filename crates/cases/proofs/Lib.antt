@@ -1,2 +1,3 @@
 mod Search
 pub mod Claim
+pub mod Impostors

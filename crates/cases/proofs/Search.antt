@@ -1,14 +1,14 @@
 -- The search mark, through the calls: each call reads what the one before it wrote. A table's words mean the tree that they were written from
 -- (`means-is-written`), so a call on written words is its edit of that tree, which computes.
 use Prim.Native.Nat.{ℕ}
-use mathlib.Core.Path.{_≡_, refl, ap, _∙_}
+use mathlib.Core.Path.{_≡_, refl, ap, sym, _∙_}
 use mathlib.Core.Bool.{true}
 use mathlib.Core.List.{List, [], _∷_}
 use native.Mathlib.Omega.{arith}
 use lib.ListN.{replicate}
 use Rattle.pkg_length.specs.Refusal.{Answer, gives, andThen}
-use Rattle.name_object.specs.Component.{leadOk, digitOk, charOk, segOk, spell}
-use Rattle.name_object.specs.Memory.{zeros, nameOf, componentOf, components, pathOf, allZero, bare, kindOk, bytesOk, pathOk, pathIn}
+use Rattle.name_object.specs.Component.{root, seg, leadOk, digitOk, charOk, segOk, spell}
+use Rattle.name_object.specs.Memory.{Named, zeros, nameOf, componentOf, components, pathOf, allZero, bare, kindOk, bytesOk, pathOk, pathIn}
 use Rattle.path.specs.Normal.{step, walk, upright, limited, normal}
 use Rattle.path.specs.Text.{padded, reading, afterRoot, textPath, fromText}
 use Rattle.table.specs.Limits.{limits}
@@ -17,8 +17,9 @@ use Rattle.table.specs.Layout.{encode}
 use Rattle.table.specs.Valid.{segmentOk, rising, levelOk, forestOk, valid}
 use Rattle.table.specs.Memory.{means, Edited, left, freshTree, size}
 use Rattle.table.specs.Edits.{levelAt, alter, hasLevel, insertLevel, insertBinding, withChild, withBinding, addLevel, isBound, handleIn, lookUp, bind, addValue}
-use Rattle.table.specs.Search.{outward, valueIn, searchUp}
-use Rattle.table.proofs.Laws.{means-is-written}
+use Rattle.table.specs.Search.{Hit, outward, valueIn, searchUp}
+use Rattle.table.proofs.Laws.{memory-means-one-tree, means-is-written}
+use Rattle.namespace.specs.declared.LevelType.the-variants.{Scope}
 use Rattle.namespace.specs.Calls.{newCall, settled, settledKeys, addLevelCall, addValueCall}
 use Rattle.namespace.specs.Search.{searchCall}
 use Rattle.cases.specs.Cases.{typed, after, levelAdded, valueAdded, paperTable, hitShown, searched}
@@ -47,15 +48,21 @@ tree atRoot atA belowA objects = record { levels = level 0 0 atRoot (level 0x415
 abbrev b : Forest
 b = level 0x425F5F5F 0 [] none none
 
+-- what the search gives: `\A___.X___`, handle 1, 3 asked
+abbrev pub hit : Named Hit
+hit = record { path = root ∷ seg 0x41 0x5F 0x5F 0x5F ∷ seg 0x58 0x5F 0x5F 0x5F ∷ []; value = record { handle = 1; asked = 3 } }
+
 -- each call's step, from written words to written words, and the search on the last
 record Steps : Type 0 where
+  fresh-valid : valid limits freshTree ≡ true
+  a-valid : valid limits (tree [] [] none []) ≡ true
   fresh : after (newCall limits) (replicate (size limits) 0) ≡ encode limits freshTree
   a-added : levelAdded (0x5C ∷ 0x41 ∷ []) (encode limits freshTree) ≡ encode limits (tree [] [] none [])
   b-added : levelAdded (0x5C ∷ 0x41 ∷ 0x2E ∷ 0x42 ∷ []) (encode limits (tree [] [] none [])) ≡ encode limits (tree [] [] b [])
   x-added : valueAdded (0x5C ∷ 0x58 ∷ []) (encode limits (tree [] [] b [])) ≡ encode limits (tree (x 0) [] b (0 ∷ []))
   ax-added : valueAdded (0x5C ∷ 0x41 ∷ 0x2E ∷ 0x58 ∷ []) (encode limits (tree (x 0) [] b (0 ∷ []))) ≡ encode limits (tree (x 0) (x 1) b (0 ∷ 0 ∷ []))
-  found : hitShown (searchCall limits (encode limits (tree (x 0) (x 1) b (0 ∷ 0 ∷ []))) (typed (0x58 ∷ [])) (typed (0x5C ∷ 0x41 ∷ 0x2E ∷ 0x42 ∷ 0x2E ∷ 0x43 ∷ [])))
-      ≡ gives (1 ∷ 3 ∷ 0x5C ∷ 0 ∷ 0 ∷ 0 ∷ 0x41 ∷ 0x5F ∷ 0x5F ∷ 0x5F ∷ 0x58 ∷ 0x5F ∷ 0x5F ∷ 0x5F ∷ [])
+  found : searchCall limits (encode limits (tree (x 0) (x 1) b (0 ∷ 0 ∷ []))) (typed (0x58 ∷ [])) (typed (0x5C ∷ 0x41 ∷ 0x2E ∷ 0x42 ∷ 0x2E ∷ 0x43 ∷ []))
+      ≡ gives hit
 
 steps : Steps
 unfolding after newCall addLevelCall addValueCall searchCall settledKeys settled leadOk digitOk charOk segOk spell zeros nameOf componentOf components pathOf
@@ -64,15 +71,32 @@ unfolding after newCall addLevelCall addValueCall searchCall settledKeys settled
     outward valueIn searchUp
 steps =
     record {
+      fresh-valid = refl;
+      a-valid = refl;
       fresh = refl;
       a-added = edited freshTree _ (record { tree = tree [] [] none []; value = tt }) refl refl;
       b-added = edited (tree [] [] none []) _ (record { tree = tree [] [] b []; value = tt }) refl refl;
       x-added = edited (tree [] [] b []) _ (record { tree = tree (x 0) [] b (0 ∷ []); value = 0 }) refl refl;
       ax-added = edited (tree (x 0) [] b (0 ∷ [])) _ (record { tree = tree (x 0) (x 1) b (0 ∷ 0 ∷ []); value = 1 }) refl refl;
-      found = ap hitShown (asked (tree (x 0) (x 1) b (0 ∷ 0 ∷ [])) _ refl);
+      found = asked (tree (x 0) (x 1) b (0 ∷ 0 ∷ [])) _ refl;
     }
+
+-- the level's words are no longer the fresh table's
+pub a-is-written : after (λ ws. addLevelCall limits ws (typed (0x5C ∷ 0x41 ∷ [])) Scope) (encode limits freshTree) ≡ encode limits freshTree → ⊥
+a-is-written e =
+    let same : freshTree ≡ tree [] [] none [] =
+    memory-means-one-tree limits (encode limits freshTree) freshTree (tree [] [] none []) (omega arith) (steps .fresh-valid) (steps .a-valid) refl
+    (sym e ∙ steps .a-added)
+    in
+    let levels : _≡_ {A = Forest} (freshTree .levels) (tree [] [] none [] .levels) = ap (λ (t : Tree). t .levels) same in
+    let z : _≡_ {A = ℕ} 0 1 = cc in
+    omega arith
+
+pub search-hit : searchCall limits paperTable (typed (0x58 ∷ [])) (typed (0x5C ∷ 0x41 ∷ 0x2E ∷ 0x42 ∷ 0x2E ∷ 0x43 ∷ [])) ≡ gives hit
+unfolding paperTable
+search-hit = rw (steps .fresh, steps .a-added, steps .b-added, steps .x-added, steps .ax-added) (steps .found)
 
 pub search-mark : searched (0x58 ∷ []) (0x5C ∷ 0x41 ∷ 0x2E ∷ 0x42 ∷ 0x2E ∷ 0x43 ∷ [])
     ≡ gives (1 ∷ 3 ∷ 0x5C ∷ 0 ∷ 0 ∷ 0 ∷ 0x41 ∷ 0x5F ∷ 0x5F ∷ 0x5F ∷ 0x58 ∷ 0x5F ∷ 0x5F ∷ 0x5F ∷ [])
-unfolding searched paperTable
-search-mark = rw (steps .fresh, steps .a-added, steps .b-added, steps .x-added, steps .ax-added) (steps .found)
+unfolding searched spell
+search-mark = ap hitShown search-hit
