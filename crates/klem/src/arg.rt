@@ -1,151 +1,238 @@
-// Paths as words: their text, or `=COUNT:HEX` for any memory. Texts are read left to right, and the first refusal is the answer.
-use crate::show;
+// The words behind a command, read as its usage says. Paths are their text, or `=COUNT:HEX` for any memory.
+use crate::answer;
+use crate::rows;
+use crate::said;
+use crate::said::Said;
 use crate::words;
 use crate::words::Hex;
 use crate::words::Number;
+use crate::words::Span;
 use name_object::AmlName;
-use path::PathSaid;
-use pkg_length::AmlError;
 
-pub enum Said {
-    Path,
-    Refused(AmlError),
-    Bad,
-}
-
-struct PathArg {
-    name: AmlName,
-    said: Said,
-}
-
-// Up to three paths of a line; those that it does not have are empty.
-pub struct Paths {
+// What a line gives its command: paths, numbers, where its hex stands, and where the words start that are not read yet; `open` where the command reads
+// those itself. A fault is a form, with the number and the place of a refusal.
+pub struct Args {
     pub first: AmlName,
     pub second: AmlName,
     pub third: AmlName,
-    pub said: Said,
+    pub paths: usize,
+    pub x: u64,
+    pub y: u64,
+    pub numbers: usize,
+    pub hex: Span,
+    pub rest: usize,
+    pub open: bool,
+    pub fault: usize,
+    pub number: u64,
+    pub place: u64,
 }
 
-// Words 1 to k as paths.
-pub fn paths_of(line: &[u8], k: usize) -> Paths {
-    let a = path_of(words::word(line, 1));
-    let b = path_if(line, 2, k);
-    let c = path_if(line, 3, k);
-    let first = a.name;
-    let second = b.name;
-    let third = c.name;
-    let said_a = a.said;
-    let said_b = b.said;
-    let said_c = c.said;
-    let said = worse(said_a, worse(said_b, said_c));
-    Paths {
+fn empty() -> AmlName {
+    AmlName {
+        count: 0,
+        bytes: [0; 128],
+    }
+}
+
+fn no_args(rest: usize) -> Args {
+    let first = empty();
+    let second = empty();
+    let third = empty();
+    let hex = Span { from: 0, to: 0 };
+    Args {
         first,
         second,
         third,
-        said,
+        paths: 0,
+        x: 0,
+        y: 0,
+        numbers: 0,
+        hex,
+        rest,
+        open: false,
+        fault: rows::OK,
+        number: 0,
+        place: 0,
     }
 }
 
-// Word i as a path, if i is one of the first k.
-fn path_if(line: &[u8], i: usize, k: usize) -> PathArg {
-    if i <= k {
-        return path_of(words::word(line, i));
+// No usage has more than three words behind the first.
+pub fn read(usage: &[u8], line: &[u8]) -> Args {
+    let named = words::next(line, 0);
+    let mut a = no_args(named.to);
+    let mut at = words::next(usage, 0);
+    let mut k: usize = 0;
+    while k < 3 {
+        at = words::next(usage, at.to);
+        a = with_word(a, kind(words::spelled(usage, at)), line);
+        k += 1;
     }
-    none(Said::Path)
+    no_more(a, line)
 }
 
-// A word that spells nothing first, then the refusal that comes first.
-fn worse(left: Said, right: Said) -> Said {
-    match right {
-        Said::Bad => Said::Bad,
-        Said::Path => left,
-        Said::Refused(e) => match left {
-            Said::Bad => Said::Bad,
-            Said::Refused(f) => Said::Refused(f),
-            Said::Path => Said::Refused(e),
-        },
+// What a usage's word asks for: `P` a path, `H` hex, `N` a number, `L` a length, `T` a level's type, `S` a size, `.` nothing, `*` what the command reads.
+fn kind(word: &[u8]) -> u8 {
+    if word.len() < 3 {
+        return b'.';
     }
-}
-
-// `? LINE-NUMBER WHY`
-pub fn wrong(out: &mut [u8], at: usize, line_number: u64, why: &[u8]) -> usize {
-    let mut o = show::pair(out, at, b"? ", line_number);
-    o = show::byte(out, o, b' ');
-    show::text(out, o, why)
-}
-
-// The answer where a path is none.
-pub fn fault(out: &mut [u8], at: usize, line_number: u64, said: Said) -> usize {
-    match said {
-        Said::Refused(e) => show::refusal(out, at, e),
-        Said::Bad => wrong(out, at, line_number, b"bad path"),
-        Said::Path => at,
+    match word[0] {
+        b'P' => b'P',
+        b'H' => if_second(word, b'E', b'H', b'N'),
+        b'S' => if_second(word, b'I', b'S', b'P'),
+        b'L' => b'L',
+        b'T' => if_second(word, b'E', b'*', if_second(word, b'Y', b'T', b'P')),
+        b'[' => b'*',
+        _ => b'N',
     }
 }
 
-fn none(said: Said) -> PathArg {
-    let name = AmlName {
-        count: 0,
-        bytes: [0; 128],
-    };
-    PathArg { name, said }
+// HEX and HANDLE, SIZE and SCOPE, TEXT, TYPE and TARGET start alike.
+fn if_second(word: &[u8], b: u8, then: u8, other: u8) -> u8 {
+    if 1 < word.len() {
+        if word[1] == b {
+            return then;
+        }
+    }
+    other
 }
 
-fn path_of(word: &[u8]) -> PathArg {
+fn with_word(mut a: Args, kind: u8, line: &[u8]) -> Args {
+    match kind {
+        b'.' => a,
+        b'*' => {
+            a.open = true;
+            a
+        }
+        _ => {
+            let w = words::next(line, a.rest);
+            a.rest = w.to;
+            given(a, kind, w, words::spelled(line, w))
+        }
+    }
+}
+
+fn no_more(a: Args, line: &[u8]) -> Args {
+    let w = words::next(line, a.rest);
+    if a.open {
+        return a;
+    }
+    if w.from < w.to {
+        return faulty(a, rows::WORDS, 0, 0);
+    }
+    a
+}
+
+fn given(mut a: Args, kind: u8, at: Span, word: &[u8]) -> Args {
+    if word.len() == 0 {
+        return faulty(a, rows::WORDS, 0, 0);
+    }
+    match kind {
+        b'P' => with_path(a, path_of(word)),
+        b'H' => {
+            a.hex = at;
+            a
+        }
+        _ => with_number(a, kind, words::number_of(word)),
+    }
+}
+
+fn with_number(mut a: Args, kind: u8, number: Number) -> Args {
+    match number {
+        Number::Bad => faulty(a, no_number(kind), 0, 0),
+        Number::Is(n) => {
+            if a.numbers == 0 {
+                a.x = n;
+            }
+            a.y = n;
+            a.numbers = 1;
+            faulty(a, limited(kind, n), 0, 0)
+        }
+    }
+}
+
+fn no_number(kind: u8) -> usize {
+    match kind {
+        b'S' => rows::BAD_SIZE,
+        b'T' => rows::BAD_TYPE,
+        _ => rows::BAD_NUMBER,
+    }
+}
+
+fn limited(kind: u8, n: u64) -> usize {
+    if n < 6 {
+        return rows::OK;
+    }
+    if kind == b'T' {
+        return rows::BAD_TYPE;
+    }
+    if n < 100001 {
+        return rows::OK;
+    }
+    if kind == b'L' {
+        return rows::TOO_LONG;
+    }
+    rows::OK
+}
+
+fn with_path(mut a: Args, s: Said) -> Args {
+    if s.form != rows::PATH {
+        return faulty(a, s.form, s.x, s.y);
+    }
+    let name = s.name;
+    if a.paths == 0 {
+        a.first = name;
+        a.paths = 1;
+        return a;
+    }
+    if a.paths == 1 {
+        a.second = name;
+        a.paths = 2;
+        return a;
+    }
+    a.third = name;
+    a
+}
+
+// The greater fault, but the first of those from BAD_NUMBER on; a wrong number of words before all.
+fn faulty(mut a: Args, fault: usize, number: u64, place: u64) -> Args {
+    if fault != rows::WORDS {
+        if rows::BAD_NUMBER <= a.fault {
+            return a;
+        }
+        if fault <= a.fault {
+            return a;
+        }
+    }
+    a.fault = fault;
+    a.number = number;
+    a.place = place;
+    a
+}
+
+fn path_of(word: &[u8]) -> Said {
     if 0 < word.len() {
         if word[0] == b'=' {
-            return memory_of(word);
+            return memory_of(word, words::find(word, b':'));
         }
     }
-    let a = path::from_str(word);
-    let said = a.said;
-    let name = a.name;
-    match said {
-        PathSaid::Done => PathArg {
-            name,
-            said: Said::Path,
-        },
-        PathSaid::Refused(e) => none(Said::Refused(e)),
-    }
-}
-
-// The index of the colon, or the word's end.
-fn colon(word: &[u8]) -> usize {
-    let mut i = 0;
-    while i < word.len() {
-        if word[i] == b':' {
-            return i;
-        }
-        i += 1;
-    }
-    i
+    answer::path(path::from_str(word))
 }
 
 // `=COUNT:HEX`: missing bytes are zero.
-fn memory_of(word: &[u8]) -> PathArg {
-    let at = colon(word);
-    if word.len() <= at {
-        return none(Said::Bad);
+fn memory_of(word: &[u8], colon: usize) -> Said {
+    if word.len() <= colon {
+        return said::plain(rows::BAD_PATH);
     }
-    match words::number_of(words::part(word, 1, at)) {
-        Number::Bad => none(Said::Bad),
-        Number::Is(count) => filled(count as usize, words::part(word, at + 1, word.len())),
+    match words::number_of(words::part(word, 1, colon)) {
+        Number::Bad => said::plain(rows::BAD_PATH),
+        Number::Is(count) => memory(count as usize, words::behind(word, colon)),
     }
 }
 
-fn filled(count: usize, hex: &[u8]) -> PathArg {
+fn memory(count: usize, hex: &[u8]) -> Said {
     let mut bytes = [0; 128];
-    if 0 < hex.len() {
-        match words::bytes_of(hex, &mut bytes) {
-            Hex::Bytes(_) => {}
-            Hex::Bad => {
-                return none(Said::Bad);
-            }
-        }
-    }
-    let name = AmlName { count, bytes };
-    PathArg {
-        name,
-        said: Said::Path,
+    match words::bytes_of(hex, &mut bytes) {
+        Hex::Bad => said::plain(rows::BAD_PATH),
+        Hex::Bytes(_) => said::path(rows::PATH, AmlName { count, bytes }, 0, 0),
     }
 }

@@ -1,188 +1,119 @@
 // Package lengths, names and paths.
-ghost use Prim.Native.Nat.{_≤_};
-use crate::arg;
-use crate::arg::Said;
-use crate::show;
+use crate::answer;
+use crate::arg::Args;
+use crate::rows;
+use crate::said;
+use crate::said::Said;
 use crate::words;
 use crate::words::Hex;
-use crate::words::Number;
 use name_object::AmlName;
-use name_object::NameSaid;
+use name_object::NameSeg;
 use path::FlagAnswer;
-use path::PathAnswer;
-use path::PathSaid;
 use path::TextAnswer;
-use pkg_length::PkgAnswer;
+use pkg_length::PkgLength;
 
-pub fn path_text(out: &mut [u8], at: usize, name: AmlName) -> usize {
+// Commands of bytes: the n that the line's hex spells stand at the front of the buffer.
+pub fn on_bytes(k: usize, a: Args, n: usize, buffer: &[u8]) -> Said {
+    let given = words::part(buffer, 0, n);
+    match k {
+        rows::PKG => answer::pkg(pkg_length::pkg_length(given)),
+        rows::RAW => answer::raw(pkg_length::raw_pkg_length(given)),
+        rows::FIT => fit(buffer, a.x as usize, a.y as usize),
+        rows::STILL => still(a.x as usize, buffer, a.y as usize),
+        rows::CHAR => char(given),
+        rows::NAME => answer::name(name_object::name_string(given)),
+        rows::SEG => seg(given),
+        _ => answer::check(statement::check(given)),
+    }
+}
+
+fn fit(buffer: &[u8], length: usize, raw_length: usize) -> Said {
+    let stream = words::part(buffer, 0, length);
+    answer::length(PkgLength::from_raw_length(stream, raw_length))
+}
+
+fn still(end_offset: usize, buffer: &[u8], length: usize) -> Said {
+    let p = PkgLength {
+        raw_length: 0,
+        end_offset,
+    };
+    let is = p.still_parsing(words::part(buffer, 0, length));
+    said::numbers(rows::NUMBER, said::flag(is), 0, 0)
+}
+
+fn char(given: &[u8]) -> Said {
+    if given.len() != 1 {
+        return said::plain(rows::ONE_BYTE);
+    }
+    let b = given[0];
+    said::numbers(
+        rows::CHARS,
+        said::flag(name_object::is_lead_name_char(b)),
+        said::flag(name_object::is_digit_char(b)),
+        said::flag(name_object::is_name_char(b)),
+    )
+}
+
+fn seg(given: &[u8]) -> Said {
+    if given.len() != 4 {
+        return said::plain(rows::FOUR_BYTES);
+    }
+    let seg = NameSeg([given[0], given[1], given[2], given[3]]);
+    answer::path(path::from_name_seg(seg))
+}
+
+// Commands of paths.
+pub fn on_paths(k: usize, a: Args, line: &[u8]) -> Said {
+    match k {
+        rows::TEXT_IS => answer::path(path::from_str(words::behind(line, a.rest))),
+        rows::WRITE => write(a.first, a.x as usize),
+        rows::ROOT => said::path(rows::PATH, path::root(), 0, 0),
+        rows::COMPONENTS => components(a.x as usize, words::spelled(line, a.hex)),
+        rows::NORMAL => answer::path(path::normalize(a.first)),
+        rows::PARENT => answer::path(path::parent(a.first)),
+        rows::KIND => kind(a.first),
+        _ => answer::path(path::resolve(a.first, a.second)),
+    }
+}
+
+fn components(count: usize, hex: &[u8]) -> Said {
+    let mut bytes = [0; 128];
+    match words::bytes_of(hex, &mut bytes) {
+        Hex::Bad => said::plain(rows::BAD_HEX),
+        Hex::Bytes(_) => answer::path(path::from_components(count, bytes)),
+    }
+}
+
+// As as_string writes it into `size` bytes; no text is longer than 159.
+fn write(name: AmlName, size: usize) -> Said {
     let mut text = [0; 159];
-    match path::as_string(name, &mut text) {
-        TextAnswer::Refused(e) => show::refusal(out, at, e),
-        TextAnswer::Length(n) => {
-            if n == 0 {
-                return show::text(out, at, b"(empty)");
-            }
-            show::text(out, at, words::part(&text, 0, n))
-        }
+    written(name, size, &mut text)
+}
+
+fn written(name: AmlName, size: usize, text: &mut [u8]) -> Said {
+    let n = words::least(size, text.len());
+    match path::as_string(name, &mut text[..n]) {
+        TextAnswer::Refused(e) => said::refused(e),
+        TextAnswer::Length(_) => said::path(rows::PATH, name, 0, 0),
     }
 }
 
-// `ok PATH`
-pub fn path_answer(out: &mut [u8], at: usize, a: PathAnswer) -> usize {
-    let said = a.said;
-    match said {
-        PathSaid::Refused(e) => show::refusal(out, at, e),
-        PathSaid::Done => {
-            let o = show::text(out, at, b"ok ");
-            path_text(out, o, a.name)
-        }
-    }
-}
-
-// pkg HEX
-pub fn pkg(line: &[u8], line_number: u64, bytes: &mut [u8], out: &mut [u8], at: usize) -> usize {
-    match words::bytes_of(words::word(line, 1), bytes) {
-        Hex::Bad => arg::wrong(out, at, line_number, b"bad hex"),
-        Hex::Bytes(n) => match pkg_length::pkg_length(words::part(bytes, 0, n)) {
-            PkgAnswer::Refused(e) => show::refusal(out, at, e),
-            PkgAnswer::Read(length, used) => {
-                let mut o = show::pair(out, at, b"ok raw ", length.raw_length as u64);
-                o = show::pair(out, o, b" end ", length.end_offset as u64);
-                show::pair(out, o, b" used ", used as u64)
-            }
-        },
-    }
-}
-
-// name HEX
-pub fn name(line: &[u8], line_number: u64, bytes: &mut [u8], out: &mut [u8], at: usize) -> usize {
-    match words::bytes_of(words::word(line, 1), bytes) {
-        Hex::Bad => arg::wrong(out, at, line_number, b"bad hex"),
-        Hex::Bytes(n) => {
-            let a = name_object::name_string(words::part(bytes, 0, n));
-            let said = a.said;
-            match said {
-                NameSaid::Refused(e) => show::refusal(out, at, e),
-                NameSaid::Used(used) => {
-                    let mut o = show::text(out, at, b"ok ");
-                    o = path_text(out, o, a.name);
-                    o = show::text(out, o, b" used ");
-                    show::place(out, o, used)
-                }
-            }
-        }
-    }
-}
-
-// text TEXT: the rest of the line
-pub fn text(line: &[u8], out: &mut [u8], at: usize) -> usize {
-    path_answer(out, at, path::from_str(words::part(line, 5, line.len())))
-}
-
-// write PATH SIZE
-pub fn write(line: &[u8], line_number: u64, out: &mut [u8], at: usize) -> usize {
-    let p = arg::paths_of(line, 1);
-    let said = p.said;
-    match said {
-        Said::Path => match words::number_of(words::word(line, 2)) {
-            Number::Bad => arg::wrong(out, at, line_number, b"bad number"),
-            Number::Is(size) => written(out, at, p.first, size as usize),
-        },
-        _ => arg::fault(out, at, line_number, said),
-    }
-}
-
-// As as_string writes it into `size` bytes; no text is longer than 159, so a larger size is as 1,024.
-fn written(out: &mut [u8], at: usize, name: AmlName, size: usize) -> usize {
-    let mut room = [0; 1024];
-    written_in(out, at, name, size, &mut room)
-}
-
-fn written_in(out: &mut [u8], at: usize, name: AmlName, size: usize, room: &mut [u8]) -> usize {
-    let n = least(size, room.len());
-    match path::as_string(name, &mut room[..n]) {
-        TextAnswer::Refused(e) => show::refusal(out, at, e),
-        TextAnswer::Length(k) => {
-            let o = show::text(out, at, b"ok ");
-            if k == 0 {
-                return show::text(out, o, b"(empty)");
-            }
-            show::text(out, o, words::part(room, 0, k))
-        }
-    }
-}
-
-fn least(a: usize, b: usize) -> usize
-    ensures { λ r. ⌜ r ≤ b ⌝ }
-{
-    if a < b {
-        return a;
-    }
-    b
-}
-
-// normal PATH
-pub fn normal(line: &[u8], line_number: u64, out: &mut [u8], at: usize) -> usize {
-    let p = arg::paths_of(line, 1);
-    let said = p.said;
-    match said {
-        Said::Path => path_answer(out, at, path::normalize(p.first)),
-        _ => arg::fault(out, at, line_number, said),
-    }
-}
-
-// parent PATH
-pub fn parent(line: &[u8], line_number: u64, out: &mut [u8], at: usize) -> usize {
-    let p = arg::paths_of(line, 1);
-    let said = p.said;
-    match said {
-        Said::Path => path_answer(out, at, path::parent(p.first)),
-        _ => arg::fault(out, at, line_number, said),
-    }
-}
-
-// resolve PATH SCOPE
-pub fn resolve(line: &[u8], line_number: u64, out: &mut [u8], at: usize) -> usize {
-    let p = arg::paths_of(line, 2);
-    let said = p.said;
-    match said {
-        Said::Path => path_answer(out, at, path::resolve(p.first, p.second)),
-        _ => arg::fault(out, at, line_number, said),
-    }
-}
-
-// kind PATH
-pub fn kind(line: &[u8], line_number: u64, out: &mut [u8], at: usize) -> usize {
-    let p = arg::paths_of(line, 1);
-    let said = p.said;
-    match said {
-        Said::Path => kinds(out, at, p.first),
-        _ => arg::fault(out, at, line_number, said),
-    }
-}
-
-fn kinds(out: &mut [u8], at: usize, name: AmlName) -> usize {
+fn kind(name: AmlName) -> Said {
     match path::is_absolute(name) {
-        FlagAnswer::Refused(e) => show::refusal(out, at, e),
-        FlagAnswer::Is(absolute) => {
-            let mut o = show::text(out, at, b"ok absolute ");
-            o = flag(out, o, FlagAnswer::Is(absolute));
-            o = show::text(out, o, b" normal ");
-            o = flag(out, o, path::is_normal(name));
-            o = show::text(out, o, b" bare ");
-            flag(out, o, path::search_rules_apply(name))
-        }
+        FlagAnswer::Refused(e) => said::refused(e),
+        FlagAnswer::Is(absolute) => said::numbers(
+            rows::KINDS,
+            said::flag(absolute),
+            flag(path::is_normal(name)),
+            flag(path::search_rules_apply(name)),
+        ),
     }
 }
 
-fn flag(out: &mut [u8], at: usize, f: FlagAnswer) -> usize {
-    match f {
-        FlagAnswer::Refused(e) => show::refusal(out, at, e),
-        FlagAnswer::Is(b) => {
-            if b {
-                return show::byte(out, at, b'1');
-            }
-            show::byte(out, at, b'0')
-        }
+// What refuses one of the three refuses the first.
+fn flag(a: FlagAnswer) -> u64 {
+    match a {
+        FlagAnswer::Is(is) => said::flag(is),
+        FlagAnswer::Refused(_) => 0,
     }
 }

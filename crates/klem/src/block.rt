@@ -1,132 +1,113 @@
 // Control blocks.
-use crate::arg;
+use crate::rows;
+use crate::said;
+use crate::said::Said;
 use crate::show;
 use crate::words;
-use crate::words::Hex;
 use crate::words::Number;
-use statement::CheckAnswer;
 use statement::End;
 use statement::RunAnswer;
 use statement::frame::CellAnswer;
 use statement::frame::Frame;
 
-// check HEX
-pub fn check(line: &[u8], line_number: u64, bytes: &mut [u8], out: &mut [u8], at: usize) -> usize {
-    match words::bytes_of(words::word(line, 1), bytes) {
-        Hex::Bad => arg::wrong(out, at, line_number, b"bad hex"),
-        Hex::Bytes(n) => match statement::check(words::part(bytes, 0, n)) {
-            CheckAnswer::Accepted => show::text(out, at, b"ok"),
-            CheckAnswer::Refused(e) => show::refusal(out, at, e),
-        },
+// A run writes its answer itself, since it has 15 cells.
+pub fn run(
+    budget: u64,
+    block: &[u8],
+    given: &[u8],
+    line_number: u64,
+    rows: &[u8],
+    out: &mut [u8],
+    at: usize,
+) -> usize {
+    let f = cells(given);
+    if f.good {
+        let frame = f.frame;
+        return ran(out, at, statement::run(block, frame, budget), rows);
     }
+    show::said(
+        out,
+        at,
+        said::at_line(said::plain(rows::BAD_CELL), line_number),
+        rows,
+    )
 }
 
-// run BUDGET HEX [CELL=NUMBER ..]
-pub fn run(line: &[u8], line_number: u64, bytes: &mut [u8], out: &mut [u8], at: usize) -> usize {
-    match words::number_of(words::word(line, 1)) {
-        Number::Bad => arg::wrong(out, at, line_number, b"bad number"),
-        Number::Is(budget) => match words::bytes_of(words::word(line, 2), bytes) {
-            Hex::Bad => arg::wrong(out, at, line_number, b"bad hex"),
-            Hex::Bytes(n) => {
-                let f = cells(line);
-                if f.good {
-                    let frame = f.frame;
-                    return ran(
-                        out,
-                        at,
-                        statement::run(words::part(bytes, 0, n), frame, budget),
-                    );
-                }
-                arg::wrong(out, at, line_number, b"bad cell")
-            }
-        },
-    }
-}
-
+// The frame that the cells give; not good where a word is no cell.
 struct Given {
     frame: Frame,
     good: bool,
 }
 
-// The cells that the words from the third on set.
-fn cells(line: &[u8]) -> Given {
-    let n = words::count(line);
-    let mut f = Given {
-        frame: Frame::new(),
-        good: true,
-    };
-    let mut k = 3;
-    while k < n {
-        f = with_cell(f, words::word(line, k));
-        k += 1;
+// Each turn reads a word, so the turns are fewer than the bytes.
+fn cells(given: &[u8]) -> Given {
+    let frame = Frame::new();
+    let mut f = Given { frame, good: true };
+    let mut w = words::next(given, 0);
+    let mut left = given.len();
+    while 0 < left {
+        if w.to <= w.from {
+            break;
+        }
+        f = with_cell(f, words::spelled(given, w));
+        w = words::next(given, w.to);
+        left -= 1;
     }
     f
 }
 
 // CELL=NUMBER
 fn with_cell(f: Given, word: &[u8]) -> Given {
-    let e = equals(word);
+    let e = words::find(word, b'=');
+    let cell = cell_of(words::number_of(words::part(word, 0, e)));
     let frame = f.frame;
-    match words::number_of(words::part(word, 0, e)) {
+    if word.len() <= e {
+        return Given { frame, good: false };
+    }
+    match words::number_of(words::behind(word, e)) {
         Number::Bad => Given { frame, good: false },
-        Number::Is(cell) => {
-            if 14 < cell {
-                return Given { frame, good: false };
-            }
-            if word.len() <= e {
-                return Given { frame, good: false };
-            }
-            match words::number_of(words::part(word, e + 1, word.len())) {
-                Number::Bad => Given { frame, good: false },
-                Number::Is(n) => Given {
-                    frame: frame.with(cell as usize, n),
-                    good: f.good,
-                },
-            }
-        }
+        Number::Is(n) => Given {
+            frame: frame.with(cell, n),
+            good: f.good & (cell < 15),
+        },
     }
 }
 
-// The index of the equals sign, or the word's end.
-fn equals(word: &[u8]) -> usize {
-    let mut i = 0;
-    while i < word.len() {
-        if word[i] == b'=' {
-            return i;
-        }
-        i += 1;
+// 15, which is no cell, where the number is none.
+fn cell_of(number: Number) -> usize {
+    match number {
+        Number::Bad => 15,
+        Number::Is(n) => n as usize,
     }
-    i
 }
 
 // END units U cells C0 .. C14
-fn ran(out: &mut [u8], at: usize, r: RunAnswer) -> usize {
+fn ran(out: &mut [u8], at: usize, r: RunAnswer, rows: &[u8]) -> usize {
     let end = r.end;
-    let mut o = ended(out, at, end);
-    o = show::pair(out, o, b" units ", r.units);
-    o = show::text(out, o, b" cells");
+    let mut o = show::said(out, at, ended(end), rows);
+    o = show::said(out, o, said::numbers(rows::UNITS, r.units, 0, 0), rows);
     let frame = r.frame;
     let mut c = 0;
     while c < 15 {
-        o = cell(out, o, frame.get(c));
+        o = show::said(out, o, cell(frame.get(c)), rows);
         c += 1;
     }
     o
 }
 
-fn ended(out: &mut [u8], at: usize, end: End) -> usize {
+fn ended(end: End) -> Said {
     match end {
-        End::Finished => show::text(out, at, b"finished"),
-        End::Returned(n) => show::pair(out, at, b"returned ", n),
-        End::BreakOut => show::text(out, at, b"break"),
-        End::ContinueOut => show::text(out, at, b"continue"),
-        End::Refused(e) => show::refusal(out, at, e),
+        End::Finished => said::plain(rows::FINISHED),
+        End::Returned(n) => said::numbers(rows::RETURNED, n, 0, 0),
+        End::BreakOut => said::plain(rows::BREAK),
+        End::ContinueOut => said::plain(rows::CONTINUE),
+        End::Refused(e) => said::refused(e),
     }
 }
 
-fn cell(out: &mut [u8], at: usize, c: CellAnswer) -> usize {
+fn cell(c: CellAnswer) -> Said {
     match c {
-        CellAnswer::Number(n) => show::pair(out, at, b" ", n),
-        CellAnswer::Refused(_) => show::text(out, at, b" -"),
+        CellAnswer::Number(n) => said::numbers(rows::CELL, n, 0, 0),
+        CellAnswer::Refused(_) => said::plain(rows::NO_CELL),
     }
 }

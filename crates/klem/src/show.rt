@@ -1,5 +1,9 @@
 // Answers are put together in a lent buffer, which has room for the longest; what would pass its end is left out.
-use pkg_length::AmlError;
+use crate::rows;
+use crate::said::Said;
+use crate::words;
+use name_object::AmlName;
+use path::TextAnswer;
 
 pub fn byte(out: &mut [u8], at: usize, b: u8) -> usize {
     if at < out.len() {
@@ -9,7 +13,7 @@ pub fn byte(out: &mut [u8], at: usize, b: u8) -> usize {
     at
 }
 
-pub fn text(out: &mut [u8], at: usize, s: &[u8]) -> usize {
+fn text(out: &mut [u8], at: usize, s: &[u8]) -> usize {
     let mut o = at;
     let mut i = 0;
     while i < s.len() {
@@ -19,60 +23,77 @@ pub fn text(out: &mut [u8], at: usize, s: &[u8]) -> usize {
     o
 }
 
-pub fn number(out: &mut [u8], at: usize, n: u64) -> usize {
+fn number(out: &mut [u8], at: usize, n: u64) -> usize {
     let mut digits = [0u8; 20];
     let k = io::decimal(n, &mut digits);
     text(out, at, &digits[..k])
 }
 
-pub fn place(out: &mut [u8], at: usize, n: usize) -> usize {
-    number(out, at, n as u64)
-}
-
-// A word and a number behind it, as ` handle 3`.
-pub fn pair(out: &mut [u8], at: usize, word: &[u8], n: u64) -> usize {
-    let o = text(out, at, word);
-    number(out, o, n)
-}
-
-// `refused NUMBER at PLACE NAME`
-pub fn refusal(out: &mut [u8], at: usize, e: AmlError) -> usize {
-    let row = e.numbered();
-    let mut o = text(out, at, b"refused ");
-    o = place(out, o, row.0);
-    o = text(out, o, b" at ");
-    o = place(out, o, row.1);
-    o = byte(out, o, b' ');
-    name(out, o, e)
-}
-
-fn name(out: &mut [u8], at: usize, e: AmlError) -> usize {
-    match e {
-        AmlError::UnexpectedEndOfStream(_) => text(out, at, b"UnexpectedEndOfStream"),
-        AmlError::InvalidPkgLength(_) => text(out, at, b"InvalidPkgLength"),
-        AmlError::BadOpcode(_) => text(out, at, b"BadOpcode"),
-        AmlError::TooDeep(_) => text(out, at, b"TooDeep"),
-        AmlError::BlockTooLong => text(out, at, b"BlockTooLong"),
-        AmlError::BadNameByte(_) => text(out, at, b"BadNameByte"),
-        AmlError::EmptyNamesAreInvalid => text(out, at, b"EmptyNamesAreInvalid"),
-        AmlError::InvalidNameSeg(_) => text(out, at, b"InvalidNameSeg"),
-        AmlError::TooManyComponents => text(out, at, b"TooManyComponents"),
-        AmlError::InvalidNormalizedName => text(out, at, b"InvalidNormalizedName"),
-        AmlError::NotAbsolute => text(out, at, b"NotAbsolute"),
-        AmlError::RootHasNoParent => text(out, at, b"RootHasNoParent"),
-        AmlError::RootNotAllowed => text(out, at, b"RootNotAllowed"),
-        AmlError::TriedToRemoveRootNamespace => text(out, at, b"TriedToRemoveRootNamespace"),
-        AmlError::LevelDoesNotExist(_) => text(out, at, b"LevelDoesNotExist"),
-        AmlError::ValueDoesNotExist => text(out, at, b"ValueDoesNotExist"),
-        AmlError::NameCollision => text(out, at, b"NameCollision"),
-        AmlError::LevelsFull => text(out, at, b"LevelsFull"),
-        AmlError::BindingsFull => text(out, at, b"BindingsFull"),
-        AmlError::ObjectsFull => text(out, at, b"ObjectsFull"),
-        AmlError::NoSuchHandle => text(out, at, b"NoSuchHandle"),
-        AmlError::BudgetSpent => text(out, at, b"BudgetSpent"),
-        AmlError::Unset(_) => text(out, at, b"Unset"),
-        AmlError::BadTable => text(out, at, b"BadTable"),
-        AmlError::OutTooSmall => text(out, at, b"OutTooSmall"),
-        AmlError::BadPath => text(out, at, b"BadPath"),
+// The answer's form, filled.
+pub fn said(out: &mut [u8], at: usize, given: Said, rows: &[u8]) -> usize {
+    let form = rows::row(rows, given.form);
+    let mut s = given;
+    let mut o = at;
+    let mut i = 0;
+    while i < form.len() {
+        o = mark(out, o, form[i], s, rows);
+        s = behind(s, form[i]);
+        i += 1;
     }
+    o
+}
+
+// What is left of the answer behind a mark: `#` uses up a number.
+fn behind(mut s: Said, b: u8) -> Said {
+    if b == b'#' {
+        s.x = s.y;
+        s.y = s.z;
+    }
+    s
+}
+
+fn mark(out: &mut [u8], at: usize, b: u8, s: Said, rows: &[u8]) -> usize {
+    match b {
+        b'#' => number(out, at, s.x),
+        b'@' => path(out, at, s.name, rows),
+        b'$' => text(out, at, rows::row(rows, s.x as usize)),
+        b'*' => names(out, at, rows),
+        _ => byte(out, at, b),
+    }
+}
+
+// A path's text, written where it is to stand.
+fn path(out: &mut [u8], at: usize, name: AmlName, rows: &[u8]) -> usize {
+    if out.len() < at {
+        return at;
+    }
+    match path::as_string(name, &mut out[at..]) {
+        TextAnswer::Refused(_) => at,
+        TextAnswer::Length(n) => {
+            if n == 0 {
+                return text(out, at, rows::row(rows, rows::EMPTY));
+            }
+            sum(at, n)
+        }
+    }
+}
+
+// The sum, or a where it does not fit.
+pub fn sum(a: usize, b: usize) -> usize {
+    if usize::MAX - a < b {
+        return a;
+    }
+    a + b
+}
+
+fn names(out: &mut [u8], at: usize, rows: &[u8]) -> usize {
+    let mut o = at;
+    let mut k = 0;
+    while k < rows::COMMANDS {
+        let usage = rows::row(rows, k);
+        o = byte(out, o, b' ');
+        o = text(out, o, words::spelled(usage, words::next(usage, 0)));
+        k += 1;
+    }
+    o
 }

@@ -1,9 +1,14 @@
 //! klem over the bindings: what crates/klem does with a script, here with calls of this crate, so that recorded scripts can be run
 //! through the archive. Nothing here knows what an answer should be.
-use klem::{check, name_string, pkg_length, run, Ended, Error, Frame, Handle, LevelType, Path, Table};
+use klem::{
+    check, is_digit_char, is_lead_name_char, is_name_char, name_string, pkg_length, raw_pkg_length, run, Ended, Error, Frame, Handle, LevelType, Path, PkgLength, Table,
+};
 
 const MOST_LINE: usize = 200_000;
 const MOST_BYTES: usize = 100_000;
+
+/// The commands as docs/KLEM.md lists them: each with its words, and two blanks before what it is for.
+const PAGE: &str = include_str!("../../../../../docs/KLEM.md");
 
 type Said = Result<String, Stop>;
 
@@ -11,6 +16,7 @@ type Said = Result<String, Stop>;
 enum Stop {
     Refused(Error),
     Wrong(&'static str),
+    Wants(&'static str),
 }
 
 impl From<Error> for Stop {
@@ -39,12 +45,14 @@ impl<M: AsRef<[u64]> + AsMut<[u64]>> Shell<M> {
         Shell { table, line: 0 }
     }
 
-    /// The answer to one line; none where it is empty or a comment.
+    /// The answer to one line; none where it is blank or a comment.
     pub fn answer(&mut self, line: &[u8]) -> Option<String> {
         self.line += 1;
         if line.len() > MOST_LINE {
             return Some(format!("? {} line over 200000 bytes", self.line));
         }
+        let end = line.iter().rposition(|b| !b" \t\r".contains(b)).map_or(0, |at| at + 1);
+        let line = &line[..end];
         if line.is_empty() || line[0] == b'#' {
             return None;
         }
@@ -52,95 +60,93 @@ impl<M: AsRef<[u64]> + AsMut<[u64]>> Shell<M> {
             Ok(said) => said,
             Err(Stop::Refused(e)) => e.to_string(),
             Err(Stop::Wrong(why)) => format!("? {} {}", self.line, why),
+            Err(Stop::Wants(usage)) => format!("? {} wants {}", self.line, usage),
         })
     }
 
     fn call(&mut self, line: &[u8]) -> Said {
-        let w: Vec<&[u8]> = line.split(|b| *b == b' ').collect();
-        match (w[0], w.len()) {
-            (b"text", _) => shown(Path::from_text(line.get(5..).unwrap_or(b""))),
-            (b"new", 1) => ok(self.table.reset()),
-            (b"digest", 1) => Ok(format!("ok {}", digest(self.table.words()))),
-            (b"pkg", 2) => {
-                let (length, used) = pkg_length(&hex(w[1], MOST_BYTES)?)?;
-                Ok(format!("ok raw {} end {} used {}", length.raw_length, length.end_offset, used))
-            }
-            (b"name", 2) => {
-                let (path, used) = name_string(&hex(w[1], MOST_BYTES)?)?;
-                Ok(format!("ok {} used {}", show(&path), used))
-            }
-            (b"check", 2) => ok(check(&hex(w[1], MOST_BYTES)?)),
-            (b"run", n) if n >= 3 => ran(&w),
-            (b"normal", 2) => shown(paths(&w[1..])?[0].normalize()),
-            (b"parent", 2) => shown(paths(&w[1..])?[0].parent()),
-            (b"resolve", 3) => {
-                let p = paths(&w[1..])?;
-                shown(p[0].resolve(&p[1]))
-            }
-            (b"kind", 2) => {
-                let p = paths(&w[1..])?[0];
-                Ok(format!("ok absolute {} normal {} bare {}", p.is_absolute() as u8, p.is_normal() as u8, p.search_rules_apply() as u8))
-            }
-            (b"write", 3) => {
-                // here the word after the path is tested after the path's text, and before its memory
-                let args = args(&w[1..2])?;
-                let mut room = [0u8; 1024];
-                let size = number(w[2])?.min(1024) as usize;
-                let length = settled(args)?[0].write_text(&mut room[..size])?;
-                Ok(format!("ok {}", if length == 0 { "(empty)".into() } else { String::from_utf8_lossy(&room[..length]) }))
-            }
-            (b"get", 2) => {
-                let value = self.table.get(handle(w[1])?)?;
-                Ok(format!("ok {value}"))
-            }
-            (b"set", 3) => {
-                let (h, value) = (handle(w[1])?, number(w[2])?);
-                ok(self.table.set(h, value))
-            }
-            (b"handle", 2) => {
-                let p = self.paths(&w[1..])?;
-                handed(self.table.get_handle(&p[0]))
-            }
-            (b"search", 3) => {
-                let p = self.paths(&w[1..])?;
-                let found = self.table.search(&p[0], &p[1])?;
-                Ok(format!("ok {} handle {} asked {}", show(&found.path), found.handle.0, found.asked))
-            }
-            (b"search-level", 3) => {
-                let p = self.paths(&w[1..])?;
-                let found = self.table.search_for_level(&p[0], &p[1])?;
-                Ok(format!("ok {} asked {}", show(&found.path), found.asked))
-            }
-            (b"level", 3) => {
+        let w: Vec<&[u8]> = line.split(|b| b" \t".contains(b)).filter(|w| !w.is_empty()).collect();
+        let usage = usage_of(w[0])?;
+        if !usage.ends_with(" TEXT") && !fits(usage, w.len()) {
+            return Err(Stop::Wants(usage));
+        }
+        match w[0] {
+            b"pkg" | b"raw" | b"char" | b"name" | b"check" => of_bytes(w[0], &hex(w[1], MOST_BYTES)?),
+            b"fit" | b"still" => of_lengths(&w),
+            b"seg" | b"components" => of_components(&w),
+            b"text" => shown(Path::from_text(behind(line, w[0]))),
+            b"root" => shown(Ok(Path::root())),
+            b"write" | b"normal" | b"parent" | b"kind" | b"resolve" => of_paths(&w),
+            b"run" => ran(&w),
+            b"help" => helped(w.get(1)),
+            b"level" | b"remove" | b"value" | b"value-at" | b"alias" | b"set" | b"set-object" | b"poke" | b"new" => self.edits(&w),
+            _ => self.looks(&w),
+        }
+    }
+
+    /// Commands that change the table.
+    fn edits(&mut self, w: &[&[u8]]) -> Said {
+        match w[0] {
+            b"new" => ok(self.table.reset()),
+            b"level" => {
                 let typ = number(w[2]).ok().and_then(|n| LevelType::try_from(n).ok()).ok_or(Stop::Wrong("bad type"))?;
                 let p = self.paths(&w[1..2])?;
                 ok(self.table.add_level(&p[0], typ))
             }
-            (b"remove", 2) => {
+            b"remove" => {
                 let p = self.paths(&w[1..])?;
                 ok(self.table.remove_level(&p[0]))
             }
-            (b"value", 3) => {
+            b"value" => {
                 let value = number(w[2])?;
                 let p = self.paths(&w[1..2])?;
                 handed(self.table.add_value(&p[0], value))
             }
-            (b"value-at", 4) => {
+            b"value-at" => {
                 let value = number(w[3])?;
                 let p = self.paths(&w[1..3])?;
                 handed(self.table.add_value_at_resolved_path(&p[0], &p[1], value))
             }
-            (b"alias", 4) => {
+            b"alias" => {
                 let p = self.paths(&w[1..])?;
                 handed(self.table.add_alias_at_resolved_path(&p[0], &p[1], &p[2]))
             }
-            (b"poke", 3) => {
+            b"set" => {
+                let (h, value) = (handle(w[1])?, number(w[2])?);
+                ok(self.table.set(h, value))
+            }
+            b"set-object" => {
+                let value = number(w[2])?;
+                let p = self.paths(&w[1..2])?;
+                ok(self.table.set_by_path(&p[0], value))
+            }
+            _ => {
                 let (i, value) = (number(w[1])?, number(w[2])?);
                 let word = self.table.words_mut().get_mut(i as usize).ok_or(Stop::Wrong("no such word"))?;
                 *word = value;
                 Ok("ok".into())
             }
-            _ => Err(Stop::Wrong("no such command")),
+        }
+    }
+
+    /// Commands that only ask.
+    fn looks(&self, w: &[&[u8]]) -> Said {
+        match w[0] {
+            b"well-formed" => Ok(format!("ok {}", self.table.is_well_formed() as u8)),
+            b"digest" => Ok(format!("ok {}", digest(self.table.words()))),
+            b"get" => Ok(format!("ok {}", self.table.get(handle(w[1])?)?)),
+            b"handle" => handed(self.table.get_handle(&self.paths(&w[1..])?[0])),
+            b"object" => Ok(format!("ok {}", self.table.get_by_path(&self.paths(&w[1..])?[0])?)),
+            b"search" => {
+                let p = self.paths(&w[1..])?;
+                let found = self.table.search(&p[0], &p[1])?;
+                Ok(format!("ok {} handle {} asked {}", show(&found.path), found.handle.0, found.asked))
+            }
+            _ => {
+                let p = self.paths(&w[1..])?;
+                let found = self.table.search_for_level(&p[0], &p[1])?;
+                Ok(format!("ok {} asked {}", show(&found.path), found.asked))
+            }
         }
     }
 
@@ -151,6 +157,109 @@ impl<M: AsRef<[u64]> + AsMut<[u64]>> Shell<M> {
             return Err(Error::BadTable.into());
         }
         settled(args)
+    }
+}
+
+fn usages() -> impl Iterator<Item = &'static str> {
+    let listed = PAGE.split("<!-- commands -->\n```\n").nth(1).and_then(|rest| rest.split("```").next()).unwrap_or("");
+    listed.lines().map(|row| row.split("  ").next().unwrap_or(""))
+}
+
+fn usage_of(word: &[u8]) -> Result<&'static str, Stop> {
+    usages().find(|u| u.split(' ').next().map(str::as_bytes) == Some(word)).ok_or(Stop::Wrong("no such command"))
+}
+
+// Whether a usage takes so many words: `[CELL=NUMBER ..]` any number of them, `[COMMAND]` one at most.
+fn fits(usage: &str, words: usize) -> bool {
+    let asked: Vec<&str> = usage.split(' ').collect();
+    let least = asked.iter().position(|w| w.starts_with('[')).unwrap_or(asked.len());
+    let most = if usage.ends_with("..]") { usize::MAX } else { asked.len() };
+    least <= words && words <= most
+}
+
+fn helped(command: Option<&&[u8]>) -> Said {
+    match command {
+        Some(word) => Ok(format!("ok {}", usage_of(word)?)),
+        None => Ok(format!("ok {}", usages().filter_map(|u| u.split(' ').next()).collect::<Vec<_>>().join(" "))),
+    }
+}
+
+// The rest of the line behind its first word and one blank.
+fn behind<'a>(line: &'a [u8], word: &[u8]) -> &'a [u8] {
+    let at = line.iter().position(|b| !b" \t".contains(b)).unwrap_or(0) + word.len() + 1;
+    line.get(at..).unwrap_or(b"")
+}
+
+// pkg, raw, char, name, check
+fn of_bytes(command: &[u8], given: &[u8]) -> Said {
+    match command {
+        b"pkg" => {
+            let (length, used) = pkg_length(given)?;
+            Ok(format!("ok raw {} end {} used {}", length.raw_length, length.end_offset, used))
+        }
+        b"raw" => {
+            let (raw, used) = raw_pkg_length(given)?;
+            Ok(format!("ok raw {raw} used {used}"))
+        }
+        b"char" => match given {
+            [b] => Ok(format!("ok lead {} digit {} name {}", is_lead_name_char(*b) as u8, is_digit_char(*b) as u8, is_name_char(*b) as u8)),
+            _ => Err(Stop::Wrong("wants 1 byte")),
+        },
+        b"name" => {
+            let (path, used) = name_string(given)?;
+            Ok(format!("ok {} used {}", show(&path), used))
+        }
+        _ => ok(check(given)),
+    }
+}
+
+// fit LENGTH RAW, still END LENGTH
+fn of_lengths(w: &[&[u8]]) -> Said {
+    let length_at = if w[0] == b"fit" { 1 } else { 2 };
+    let mut n = [0; 3];
+    for k in 1..3 {
+        n[k] = number(w[k])? as usize;
+        if k == length_at && n[k] > MOST_BYTES {
+            return Err(Stop::Wrong("length over 100000"));
+        }
+    }
+    let stream = vec![0; n[length_at]];
+    if length_at == 2 {
+        return Ok(format!("ok {}", PkgLength { raw_length: 0, end_offset: n[1] }.still_parsing(&stream) as u8));
+    }
+    let length = PkgLength::from_raw_length(&stream, n[2])?;
+    Ok(format!("ok raw {} end {}", length.raw_length, length.end_offset))
+}
+
+// seg HEX, components COUNT HEX
+fn of_components(w: &[&[u8]]) -> Said {
+    if w[0] == b"seg" {
+        let seg = <[u8; 4]>::try_from(hex(w[1], MOST_BYTES)?).map_err(|_| Stop::Wrong("wants 4 bytes"))?;
+        return shown(Path::from_name_seg(seg));
+    }
+    let count = number(w[1])?;
+    let given = hex(w[2], 128)?;
+    let mut bytes = [0u8; 128];
+    bytes[..given.len()].copy_from_slice(&given);
+    shown(Path::from_components(count as usize, &bytes))
+}
+
+// write, normal, parent, kind, resolve
+fn of_paths(w: &[&[u8]]) -> Said {
+    if w[0] == b"write" {
+        // here the word after the path is tested after the path's text, and before its memory
+        let args = args(&w[1..2])?;
+        let mut room = [0u8; 1024];
+        let size = number(w[2])?.min(1024) as usize;
+        let length = settled(args)?[0].write_text(&mut room[..size])?;
+        return Ok(format!("ok {}", if length == 0 { "(empty)".into() } else { String::from_utf8_lossy(&room[..length]) }));
+    }
+    let p = paths(&w[1..])?;
+    match w[0] {
+        b"normal" => shown(p[0].normalize()),
+        b"parent" => shown(p[0].parent()),
+        b"resolve" => shown(p[0].resolve(&p[1])),
+        _ => Ok(format!("ok absolute {} normal {} bare {}", p[0].is_absolute() as u8, p[0].is_normal() as u8, p[0].search_rules_apply() as u8)),
     }
 }
 
@@ -223,12 +332,14 @@ fn handed(said: Result<Handle, Error>) -> Said {
     Ok(format!("ok handle {}", said?.0))
 }
 
+// Decimal, or `0x` and 1 to 16 hex digits.
 fn number(word: &[u8]) -> Result<u64, Stop> {
-    let wrong = Stop::Wrong("bad number");
-    if !word.iter().all(u8::is_ascii_digit) {
-        return Err(wrong);
-    }
-    std::str::from_utf8(word).ok().and_then(|w| w.parse().ok()).ok_or(wrong)
+    let (digits, base) = match word {
+        [b'0', b'x' | b'X', digits @ ..] if digits.len() <= 16 => (digits, 16),
+        digits => (digits, 10),
+    };
+    let text = std::str::from_utf8(digits).ok().filter(|t| t.chars().all(|c| c.is_digit(base)));
+    text.and_then(|t| u64::from_str_radix(t, base).ok()).ok_or(Stop::Wrong("bad number"))
 }
 
 // A larger number than a handle has bits for was never handed out, and neither was the largest.

@@ -1,31 +1,29 @@
+-- `ran` is safe: each callee tests its places.
+-- It turns 15 times.
 use mathlib.Core.Path.{_≡_}
-use Prim.Native.Nat.{_+_, _-_, _/_, _≤_}
+use Prim.Native.Nat.{_-_}
 use lib.ListN.{length}
 use borrow.Author.Needs.{needs}
-use native.Mathlib.Omega.{arith}
 use Rattle.klem.proofs.block.ran.Statement.{statement}
 use Rattle.klem.proofs.block.ran.Tie as tie
 
 abbrev Inv-loop : tie.InvT-loop
-Inv-loop out₀ at o₀ frame c₀ out o c = length out ≡ length out₀
+Inv-loop out₀ at rows o₀ frame c₀ out o c = length out ≡ length out₀
 
 abbrev μ-loop : tie.MeasureT-loop
-μ-loop out₀ at o₀ frame c₀ out o c = 15 - c
+μ-loop out₀ at rows o₀ frame c₀ out o c = 15 - c
 
 ended-requires : tie.Need-ended-requires Inv-loop μ-loop
 ended-requires c κs = search needs
 
-slice-aggregate-pair : tie.Need-slice-aggregate-pair Inv-loop μ-loop
-slice-aggregate-pair c = search needs
+said-requires : tie.Need-said-requires Inv-loop μ-loop
+said-requires c κs = search needs
 
-pair-requires : tie.Need-pair-requires Inv-loop μ-loop
-pair-requires c κs = search needs
+numbers-requires : tie.Need-numbers-requires Inv-loop μ-loop
+numbers-requires c κs = search needs
 
-slice-aggregate-text : tie.Need-slice-aggregate-text Inv-loop μ-loop
-slice-aggregate-text c = search needs
-
-text-requires : tie.Need-text-requires Inv-loop μ-loop
-text-requires c κs = search needs
+said-requires-2 : tie.Need-said-requires-2 Inv-loop μ-loop
+said-requires-2 c κs = search needs
 
 loop-holds : tie.Need-loop-holds Inv-loop μ-loop
 loop-holds c = search needs
@@ -35,6 +33,9 @@ get-requires c κs = search needs
 
 cell-requires : tie.Need-cell-requires Inv-loop μ-loop
 cell-requires c κs = search needs
+
+said-requires-3 : tie.Need-said-requires-3 Inv-loop μ-loop
+said-requires-3 c κs = search needs
 
 add-c : tie.Need-add-c Inv-loop μ-loop
 add-c c = search needs
@@ -58,13 +59,13 @@ ran-spec =
     Inv-loop
     μ-loop
     ended-requires
-    slice-aggregate-pair
-    pair-requires
-    slice-aggregate-text
-    text-requires
+    said-requires
+    numbers-requires
+    said-requires-2
     loop-holds
     get-requires
     cell-requires
+    said-requires-3
     add-c
     loop-less
     loop-again

@@ -1,16 +1,16 @@
-use mathlib.Core.Path.{_≡_}
-use Prim.Native.Nat.{_+_, _-_, _/_, _≤_, _<_}
+-- `digest` is safe and ends: it turns once for each word of the table.
+-- Each digest stays below the prime, as `stirred` and `whisked` ensure, so that the last sum fits.
+use Prim.Native.Nat.{_-_, _<_}
 use lib.ListN.{length}
 use borrow.Author.Needs.{needs}
-use native.Mathlib.Omega.{arith}
 use Rattle.klem.proofs.calls.digest.Statement.{statement}
 use Rattle.klem.proofs.calls.digest.Tie as tie
 
 abbrev Inv-loop : tie.InvT-loop
-Inv-loop table out at a₀ b₀ i₀ t7 a b i = (a < 2147483647) × (b < 2147483647)
+Inv-loop table a₀ b₀ i₀ a b i = (a < 2147483647) × (b < 2147483647)
 
 abbrev μ-loop : tie.MeasureT-loop
-μ-loop table out at a₀ b₀ i₀ t7 a b i = length table - i
+μ-loop table a₀ b₀ i₀ a b i = length table - i
 
 loop-holds : tie.Need-loop-holds Inv-loop μ-loop
 loop-holds c = search needs
@@ -42,20 +42,11 @@ loop-less c = search needs
 loop-again : tie.Need-loop-again Inv-loop μ-loop
 loop-again c = search needs
 
-slice-aggregate-pair : tie.Need-slice-aggregate-pair Inv-loop μ-loop
-slice-aggregate-pair c = search needs
+mul-result : tie.Need-mul-result Inv-loop μ-loop
+mul-result c = search needs
 
-mul-pair : tie.Need-mul-pair Inv-loop μ-loop
-mul-pair c = search needs
-
-add-pair : tie.Need-add-pair Inv-loop μ-loop
-add-pair c = search needs
-
-pair-requires : tie.Need-pair-requires Inv-loop μ-loop
-pair-requires c κs = search needs
-
-same-length : tie.Need-same-length Inv-loop μ-loop
-same-length c = search needs
+add-result : tie.Need-add-result Inv-loop μ-loop
+add-result c = search needs
 
 returns : tie.Need-returns Inv-loop μ-loop
 returns c = search needs
@@ -76,9 +67,6 @@ digest-spec =
     add-i
     loop-less
     loop-again
-    slice-aggregate-pair
-    mul-pair
-    add-pair
-    pair-requires
-    same-length
+    mul-result
+    add-result
     returns)

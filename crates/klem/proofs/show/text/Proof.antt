@@ -1,8 +1,9 @@
+-- `text` is safe: an index of the text is tested by the loop, one of the buffer by `byte`.
+-- What is left of the text falls with each turn.
 use mathlib.Core.Path.{_≡_}
-use Prim.Native.Nat.{_+_, _-_, _/_, _≤_}
+use Prim.Native.Nat.{_-_}
 use lib.ListN.{length}
 use borrow.Author.Needs.{needs}
-use native.Mathlib.Omega.{arith}
 use Rattle.klem.proofs.show.text.Statement.{statement}
 use Rattle.klem.proofs.show.text.Tie as tie
 

@@ -1,16 +1,17 @@
+-- `is_named` is safe: the row was tested to be longer than the word, so each index of the word is one of the row.
+-- What is left of the word falls with each turn.
 use mathlib.Core.Path.{_≡_}
-use Prim.Native.Nat.{_+_, _-_, _/_, _≤_}
+use Prim.Native.Nat.{_-_, _<_}
 use lib.ListN.{length}
 use borrow.Author.Needs.{needs}
-use native.Mathlib.Omega.{arith}
-use Rattle.klem.proofs.words.same.Statement.{statement}
-use Rattle.klem.proofs.words.same.Tie as tie
+use Rattle.klem.proofs.rows.is_named.Statement.{statement}
+use Rattle.klem.proofs.rows.is_named.Tie as tie
 
 abbrev Inv-loop : tie.InvT-loop
-Inv-loop a b i₀ i = length a ≡ length b
+Inv-loop row word n i₀ i = (n ≡ length word) × (n < length row)
 
 abbrev μ-loop : tie.MeasureT-loop
-μ-loop a b i₀ i = length a - i
+μ-loop row word n i₀ i = n - i
 
 returns : tie.Need-returns Inv-loop μ-loop
 returns c = search needs
@@ -36,11 +37,14 @@ loop-less c = search needs
 loop-again : tie.Need-loop-again Inv-loop μ-loop
 loop-again c = search needs
 
+shared-slice-read-result : tie.Need-shared-slice-read-result Inv-loop μ-loop
+shared-slice-read-result c = search needs
+
 returns-3 : tie.Need-returns-3 Inv-loop μ-loop
 returns-3 c = search needs
 
-pub same-spec : {M : Type 1} → statement M
-same-spec =
+pub is-named-spec : {M : Type 1} → statement M
+is-named-spec =
     tie.close
     (tie.spec
     Inv-loop
@@ -53,4 +57,5 @@ same-spec =
     add-i
     loop-less
     loop-again
+    shared-slice-read-result
     returns-3)

@@ -1,28 +1,25 @@
-use mathlib.Core.Path.{_≡_}
-use Prim.Native.Nat.{_+_, _-_, _/_, _≤_}
+-- `line_end` stays between `from` and the length, where it stops at the latest.
+-- What is left of the chunk falls with each turn.
+use Prim.Native.Nat.{_-_, _≤_}
 use lib.ListN.{length}
 use borrow.Author.Needs.{needs}
-use native.Mathlib.Omega.{arith}
-use Rattle.klem.proofs.words.start.Statement.{statement}
-use Rattle.klem.proofs.words.start.Tie as tie
+use Rattle.klem.proofs.line_end.Statement.{statement}
+use Rattle.klem.proofs.line_end.Tie as tie
 
 abbrev Inv-loop : tie.InvT-loop
-Inv-loop line k left₀ i₀ left i = Unit {0}
+Inv-loop chunk from i₀ i = (from ≤ i) × (i ≤ length chunk)
 
 abbrev μ-loop : tie.MeasureT-loop
-μ-loop line k left₀ i₀ left i = length line - i
+μ-loop chunk from i₀ i = length chunk - i
 
 loop-holds : tie.Need-loop-holds Inv-loop μ-loop
 loop-holds c = search needs
 
+shared-slice-read-if1 : tie.Need-shared-slice-read-if1 Inv-loop μ-loop
+shared-slice-read-if1 c = search needs
+
 returns : tie.Need-returns Inv-loop μ-loop
 returns c = search needs
-
-shared-slice-read-if2 : tie.Need-shared-slice-read-if2 Inv-loop μ-loop
-shared-slice-read-if2 c = search needs
-
-sub-left : tie.Need-sub-left Inv-loop μ-loop
-sub-left c = search needs
 
 add-i : tie.Need-add-i Inv-loop μ-loop
 add-i c = search needs
@@ -36,16 +33,15 @@ loop-again c = search needs
 returns-2 : tie.Need-returns-2 Inv-loop μ-loop
 returns-2 c = search needs
 
-pub start-spec : {M : Type 1} → statement M
-start-spec =
+pub line-end-spec : {M : Type 1} → statement M
+line-end-spec =
     tie.close
     (tie.spec
     Inv-loop
     μ-loop
     loop-holds
+    shared-slice-read-if1
     returns
-    shared-slice-read-if2
-    sub-left
     add-i
     loop-less
     loop-again

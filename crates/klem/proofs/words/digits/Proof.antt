@@ -1,16 +1,16 @@
-use mathlib.Core.Path.{_≡_}
-use Prim.Native.Nat.{_+_, _-_, _/_, _≤_}
+-- `digits` is safe: the loop tests each index, and `with_digit` each number.
+-- What is left of the word falls with each turn.
+use Prim.Native.Nat.{_-_}
 use lib.ListN.{length}
 use borrow.Author.Needs.{needs}
-use native.Mathlib.Omega.{arith}
-use Rattle.klem.proofs.words.number_of.Statement.{statement}
-use Rattle.klem.proofs.words.number_of.Tie as tie
+use Rattle.klem.proofs.words.digits.Statement.{statement}
+use Rattle.klem.proofs.words.digits.Tie as tie
 
 abbrev Inv-loop : tie.InvT-loop
-Inv-loop word n₀ i₀ n i = Unit {0}
+Inv-loop word hex n₀ i₀ n i = Unit {0}
 
 abbrev μ-loop : tie.MeasureT-loop
-μ-loop word n₀ i₀ n i = length word - i
+μ-loop word hex n₀ i₀ n i = length word - i
 
 returns : tie.Need-returns Inv-loop μ-loop
 returns c = search needs
@@ -23,6 +23,9 @@ shared-slice-read-digit c = search needs
 
 digit-requires : tie.Need-digit-requires Inv-loop μ-loop
 digit-requires c κs = search needs
+
+with-digit-requires : tie.Need-with-digit-requires Inv-loop μ-loop
+with-digit-requires c κs = search needs
 
 enum-known-next : tie.Need-enum-known-next Inv-loop μ-loop
 enum-known-next c = search needs
@@ -45,8 +48,8 @@ loop-again c = search needs
 returns-3 : tie.Need-returns-3 Inv-loop μ-loop
 returns-3 c = search needs
 
-pub number-of-spec : {M : Type 1} → statement M
-number-of-spec =
+pub digits-spec : {M : Type 1} → statement M
+digits-spec =
     tie.close
     (tie.spec
     Inv-loop
@@ -55,6 +58,7 @@ number-of-spec =
     loop-holds
     shared-slice-read-digit
     digit-requires
+    with-digit-requires
     enum-known-next
     enum-told
     returns-2

@@ -1,16 +1,16 @@
-use mathlib.Core.Path.{_≡_}
-use Prim.Native.Nat.{_+_, _-_, _/_, _≤_}
+-- `find` is safe: the loop tests each index.
+-- What is left of the word falls with each turn.
+use Prim.Native.Nat.{_-_}
 use lib.ListN.{length}
 use borrow.Author.Needs.{needs}
-use native.Mathlib.Omega.{arith}
-use Rattle.klem.proofs.block.equals.Statement.{statement}
-use Rattle.klem.proofs.block.equals.Tie as tie
+use Rattle.klem.proofs.words.find.Statement.{statement}
+use Rattle.klem.proofs.words.find.Tie as tie
 
 abbrev Inv-loop : tie.InvT-loop
-Inv-loop word i₀ i = Unit {0}
+Inv-loop word b i₀ i = Unit {0}
 
 abbrev μ-loop : tie.MeasureT-loop
-μ-loop word i₀ i = length word - i
+μ-loop word b i₀ i = length word - i
 
 loop-holds : tie.Need-loop-holds Inv-loop μ-loop
 loop-holds c = search needs
@@ -33,8 +33,8 @@ loop-again c = search needs
 returns-2 : tie.Need-returns-2 Inv-loop μ-loop
 returns-2 c = search needs
 
-pub equals-spec : {M : Type 1} → statement M
-equals-spec =
+pub find-spec : {M : Type 1} → statement M
+find-spec =
     tie.close
     (tie.spec
     Inv-loop
