@@ -1,43 +1,133 @@
 /* Klemovarith: names, paths, the namespace and control blocks of ACPI byte code, proved.
  *
- * Every function takes any bytes and numbers, ends, and never traps. All memory is the caller's; nothing is kept between calls.
+ * Every function takes any bytes and numbers, ends, and never traps. All memory is the caller's; nothing is kept between calls, so
+ * that any number of calls may run at once on different memory.
  *
- * Memory. A pointer is followed by its length, counted in elements. What a pointer and a length name must be readable, and writable
- * where it is not const; memory that a call may write must not overlap other memory of the same call. A length of 0 takes any pointer
- * that is not null.
+ * Memory. A pointer is followed by its length, counted in elements: bytes of a uint8_t, words of a uint64_t. What the two name must be
+ * readable, writable where it is not const, and must not change during the call. Words are aligned to 8 bytes; bytes may stand
+ * anywhere. With a length of 0 the pointer may be null.
+ * Memory that a call may write (it is not const) must not overlap any other memory of the same call. What is const may overlap what
+ * is const: one path may be given as path and as scope.
  *
- * Paths. A path is KLEM_PATH bytes: how many components it has, then 32 components of four bytes: 5C 00 00 00 is `\`, 5E 00 00 00
- * is `^`, anything else is a segment; spare bytes are zero. Equal paths have equal bytes. Memory that holds no path is refused (26).
+ * Paths. A path is KLEM_PATH bytes: how many components it has, in two bytes, low first, then KLEM_COMPONENTS components of four
+ * bytes: 5C 00 00 00 is `\`, 5E 00 00 00 is `^`, anything else is a segment; spare bytes are zero. Equal paths have equal bytes.
+ * Memory that holds no path is refused (26).
  *
  * Answers. A call that can refuse writes KLEM_RESULT words:
- *   result[0]   0: it gives the values; 1 to 26: it refuses, with the number of the table of refusals; KLEM_BAD_TYPE
+ *   result[0]   0: it gives the values; else the number of its refusal: 1 to 26 of the table of refusals, or one of the library's own
  *   result[1]   the refusal's place, 0 where it has none
  *   result[2..] the values, as each function says; 0 for those that it does not name, and all 0 on a refusal (but see klem_run)
  * and returns result[0]. Where a slice whose length is fixed has another length, the call returns KLEM_BAD_SLICE and writes nothing,
- * to the result neither. The table is the exception: the paper refuses its length by 24.
+ * to the result neither. The table is the exception: its length is refused by 24.
  * A path that a call gives is written to `out`; a call that refuses leaves `out` as it was.
  *
- * `refuses` below lists a call's numbers in the order in which they are tested; docs/REFUSALS.md has what each means and its place. KLEM_BAD_SLICE is
- * tested before them all.
+ * `refuses` below lists a call's numbers in the order in which they are tested; docs/REFUSALS.md has what each means and its place.
+ * KLEM_BAD_SLICE is tested before them all.
+ *
+ * What a call asks of the processor and the stack. x86-64 with SSE2 switched on: xmm registers are used and not preserved. A stack that
+ * is aligned to 16 at the call, has KLEM_STACK bytes, and is not written below its pointer by interrupts: the red zone is used. No
+ * indirect branch tracking (IBT) during the call: the code has indirect jumps and no endbr64. A run costs at most budget times the bytes
+ * of its block. A kernel must read bindings/README.md before its first call.
  */
 #ifndef KLEM_H
 #define KLEM_H
 
-#include <stdbool.h>
+/* The types. Linux has the integers in a place of its own. C before 1999 has no bool; a byte that is 0 or 1 is returned as a bool is. */
+#ifdef __KERNEL__
+#include <linux/types.h>
+#else
 #include <stddef.h>
 #include <stdint.h>
+#endif
+#if defined(__cplusplus)
+typedef bool klem_bool;
+#elif defined(__KERNEL__) || (defined(__STDC_VERSION__) && __STDC_VERSION__ >= 199901L)
+typedef _Bool klem_bool;
+#else
+typedef unsigned char klem_bool;
+#endif
 
 #ifdef __cplusplus
 extern "C" {
 #endif
 
-#define KLEM_RESULT 8       /* words of a result */
-#define KLEM_PATH 129       /* bytes of a path */
-#define KLEM_TABLE 1153     /* words of a table: 128 levels, 512 bindings, the count of objects, 512 objects */
-#define KLEM_FRAME 30       /* words of a frame */
+/* The version of this interface. A new number or a new call changes MINOR; what a program must be changed for changes MAJOR, or MINOR
+ * while MAJOR is 0. */
+#define KLEM_VERSION_MAJOR 0
+#define KLEM_VERSION_MINOR 2
+#define KLEM_VERSION_PATCH 0
 
-#define KLEM_BAD_SLICE 27   /* a slice whose length is fixed has another; nothing is written */
-#define KLEM_BAD_TYPE 28    /* a level's type is over 5 */
+/* Lengths of slices */
+#define KLEM_RESULT 8            /* words of a result */
+#define KLEM_PATH 130            /* bytes of a path: two for the count, 128 for the components */
+#define KLEM_TABLE 1153          /* words of a table: 128 levels, 512 bindings, the count of objects, 512 objects */
+#define KLEM_FRAME 30            /* words of a frame: 15 flags, 15 numbers */
+#define KLEM_SEGMENT 4           /* bytes of a segment */
+#define KLEM_COMPONENT_BYTES 128 /* bytes of all components of a path */
+
+/* Limits */
+#define KLEM_COMPONENTS 32       /* components of a path */
+#define KLEM_LEVELS 128          /* levels of a table, the root counted */
+#define KLEM_BINDINGS 512        /* bindings of a table */
+#define KLEM_OBJECTS 512         /* objects of a table */
+#define KLEM_BLOCK_BYTES 65536   /* bytes of a block, and of the input of klem_pkg_length and klem_raw_pkg_length */
+#define KLEM_TEXT_BYTES 159      /* bytes of the longest text of a path, without an end mark */
+#define KLEM_DEPTH 16            /* how deep statements and terms may stand in each other */
+#define KLEM_STACK 7168          /* bytes of stack that a check or a run needs at the most */
+#define KLEM_STACK_OTHER 2100    /* bytes of stack that any other call needs at the most */
+
+/* The table of refusals */
+#define KLEM_OK 0
+#define KLEM_UNEXPECTED_END_OF_STREAM 1
+#define KLEM_INVALID_PKG_LENGTH 2
+#define KLEM_BAD_OPCODE 3
+#define KLEM_TOO_DEEP 4
+#define KLEM_BLOCK_TOO_LONG 5
+#define KLEM_BAD_NAME_BYTE 6
+#define KLEM_EMPTY_NAMES_ARE_INVALID 7
+#define KLEM_INVALID_NAME_SEG 8
+#define KLEM_TOO_MANY_COMPONENTS 9
+#define KLEM_INVALID_NORMALIZED_NAME 10
+#define KLEM_NOT_ABSOLUTE 11
+#define KLEM_ROOT_HAS_NO_PARENT 12
+#define KLEM_ROOT_NOT_ALLOWED 13
+#define KLEM_TRIED_TO_REMOVE_ROOT_NAMESPACE 14
+#define KLEM_LEVEL_DOES_NOT_EXIST 15
+#define KLEM_VALUE_DOES_NOT_EXIST 16
+#define KLEM_NAME_COLLISION 17
+#define KLEM_LEVELS_FULL 18
+#define KLEM_BINDINGS_FULL 19
+#define KLEM_OBJECTS_FULL 20
+#define KLEM_NO_SUCH_HANDLE 21
+#define KLEM_BUDGET_SPENT 22
+#define KLEM_UNSET 23
+#define KLEM_BAD_TABLE 24
+#define KLEM_OUT_TOO_SMALL 25
+#define KLEM_BAD_PATH 26
+
+/* The library's own, apart from the table, which may grow */
+#define KLEM_BAD_SLICE 1001 /* a slice whose length is fixed has another; nothing is written */
+#define KLEM_BAD_TYPE 1002  /* a level's type is over 5 */
+#define KLEM_BAD_CELL 1003  /* klem_frame_set of a cell over 14, its place; the frame stays as it was */
+
+/* Types of a level */
+#define KLEM_SCOPE 0
+#define KLEM_DEVICE 1
+#define KLEM_PROCESSOR 2
+#define KLEM_POWER_RESOURCE 3
+#define KLEM_THERMAL_ZONE 4
+#define KLEM_METHOD_LOCALS 5
+
+/* How a run ended */
+#define KLEM_FINISHED 0
+#define KLEM_RETURNED 1
+#define KLEM_BREAK 2
+#define KLEM_CONTINUE 3
+
+/* Cells of a frame: Local0 to Local7, then Arg0 to Arg6 */
+#define KLEM_LOCAL0 0
+#define KLEM_ARG0 8
+#define KLEM_CELLS 15
 
 /* Package lengths. The readers share a limit of 65,536 bytes */
 
@@ -48,13 +138,13 @@ uint64_t klem_raw_pkg_length(const uint8_t *input, size_t input_len, uint64_t *r
 /* a raw length fitted to a stream. values: raw length, end offset. refuses: 2 */
 uint64_t klem_from_raw_length(const uint8_t *stream, size_t stream_len, size_t raw_length, uint64_t *result, size_t result_len);
 /* whether the stream, of which the front is read, is still within the package with this end offset */
-bool klem_still_parsing(size_t raw_length, size_t end_offset, const uint8_t *stream, size_t stream_len);
+klem_bool klem_still_parsing(size_t raw_length, size_t end_offset, const uint8_t *stream, size_t stream_len);
 
 /* Names */
 
-bool klem_is_lead_name_char(uint8_t byte);
-bool klem_is_digit_char(uint8_t byte);
-bool klem_is_name_char(uint8_t byte);
+klem_bool klem_is_lead_name_char(uint8_t byte);
+klem_bool klem_is_digit_char(uint8_t byte);
+klem_bool klem_is_name_char(uint8_t byte);
 /* a NameString at the front of input. out: the path. values: bytes used. refuses: 1, 6 (whichever comes first), 7, 9 */
 uint64_t klem_name_string(const uint8_t *input, size_t input_len, uint8_t *out, size_t out_len, uint64_t *result, size_t result_len);
 
@@ -68,7 +158,8 @@ uint64_t klem_from_name_seg(const uint8_t *seg, size_t seg_len, uint8_t *out, si
 uint64_t klem_from_components(size_t count, const uint8_t *bytes, size_t bytes_len, uint8_t *out, size_t out_len, uint64_t *result, size_t result_len);
 /* text. out: the path. refuses: 7, 8, 9 */
 uint64_t klem_from_str(const uint8_t *text, size_t text_len, uint8_t *out, size_t out_len, uint64_t *result, size_t result_len);
-/* writes the text of a path, at most 159 bytes, at the start of text; what follows it stays. values: its length. refuses: 26, 25 (it does not fit; text stays) */
+/* writes the text of a path, at most 159 bytes, at the start of text; what follows it stays, and no end mark is written.
+ * values: its length. refuses: 26, 25 (it does not fit; text stays) */
 uint64_t klem_as_string(const uint8_t *path, size_t path_len, uint8_t *text, size_t text_len, uint64_t *result, size_t result_len);
 /* whether a path has no `^`; starts at `\`; is one bare segment. values: 1 where it is so, else 0. refuses: 26 */
 uint64_t klem_is_normal(const uint8_t *path, size_t path_len, uint64_t *result, size_t result_len);
@@ -84,11 +175,10 @@ uint64_t klem_resolve(const uint8_t *path, size_t path_len, const uint8_t *scope
 /* The table: KLEM_TABLE words, whatever they hold (24 where they hold no table); a call that refuses leaves it as it was */
 
 /* whether the words hold a table */
-bool klem_well_formed(const uint64_t *table, size_t table_len);
+klem_bool klem_well_formed(const uint64_t *table, size_t table_len);
 /* writes a fresh table: the root alone. refuses: 24 (the length alone) */
-uint64_t klem_new(uint64_t *table, size_t table_len, uint64_t *result, size_t result_len);
-/* adds a level; one that is there stays as it is. typ: 0 Scope, 1 Device, 2 Processor, 3 PowerResource, 4 ThermalZone, 5 MethodLocals.
- * refuses: KLEM_BAD_TYPE, 24, 26, 11, 10, 15, 18 */
+uint64_t klem_table_new(uint64_t *table, size_t table_len, uint64_t *result, size_t result_len);
+/* adds a level; one that is there stays as it is. typ: KLEM_SCOPE to KLEM_METHOD_LOCALS. refuses: KLEM_BAD_TYPE, 24, 26, 11, 10, 15, 18 */
 uint64_t klem_add_level(uint64_t *table, size_t table_len, const uint8_t *path, size_t path_len, uint64_t typ, uint64_t *result, size_t result_len);
 /* removes a level and all below it; objects stay readable by their handles. refuses: 24, 26, 11, 10, 14, 15 */
 uint64_t klem_remove_level(uint64_t *table, size_t table_len, const uint8_t *path, size_t path_len, uint64_t *result, size_t result_len);
@@ -117,23 +207,24 @@ uint64_t klem_search(const uint64_t *table, size_t table_len, const uint8_t *pat
 uint64_t klem_search_for_level(const uint64_t *table, size_t table_len, const uint8_t *path, size_t path_len, const uint8_t *scope, size_t scope_len, uint8_t *out, size_t out_len, uint64_t *result, size_t result_len);
 
 /* Control blocks, of at most 65,536 bytes, and frames.
- * A frame has 15 cells: 0 to 7 are Locals, 8 to 14 Args. Word c is 0 where cell c is unset, and anything else where it is set;
- * word 15 + c is its number. A call that writes a frame writes 0 or 1 for each of the first 15 words. */
+ * A frame has KLEM_CELLS cells: from KLEM_LOCAL0 eight Locals, from KLEM_ARG0 seven Args. Word c is 0 where cell c is unset, and
+ * anything else where it is set; word KLEM_CELLS + c is its number. So any words are a frame. A call that writes a frame writes 0 or 1
+ * for each of the first KLEM_CELLS words. */
 
 /* whether the grammar derives the block. refuses: 5, and 1 to 4 from left to right */
 uint64_t klem_check(const uint8_t *block, size_t block_len, uint64_t *result, size_t result_len);
 /* checks the block, then runs it, one unit for each statement begun and each evaluation of a While's predicate, at most budget.
- * values: how it ended (0 finished, 1 returned, 2 break, 3 continue), the number returned or 0, the units used.
+ * values: how it ended (KLEM_FINISHED to KLEM_CONTINUE), the number returned or 0, the units used.
  * On a refusal the first two are 0, and the units stand there all the same: 22 and 23 are given after part of the block has run,
  * and leave the frame as the run left it. A block that the check refuses leaves the frame as it was, word for word.
  * refuses: as klem_check, 22, 23 */
 uint64_t klem_run(const uint8_t *block, size_t block_len, uint64_t *frame, size_t frame_len, uint64_t budget, uint64_t *result, size_t result_len);
 /* every cell unset, every number 0. refuses: nothing */
 uint64_t klem_frame_new(uint64_t *frame, size_t frame_len, uint64_t *result, size_t result_len);
-/* values: the number. refuses: 23, where the cell is unset or is not there */
+/* values: the number. refuses: 23, where the cell is unset or is over 14; its place is the cell */
 uint64_t klem_frame_get(const uint64_t *frame, size_t frame_len, size_t cell, uint64_t *result, size_t result_len);
-/* sets a cell; where it is not there, no cell is set. refuses: nothing */
-uint64_t klem_frame_with(uint64_t *frame, size_t frame_len, size_t cell, uint64_t number, uint64_t *result, size_t result_len);
+/* sets a cell. refuses: KLEM_BAD_CELL */
+uint64_t klem_frame_set(uint64_t *frame, size_t frame_len, size_t cell, uint64_t number, uint64_t *result, size_t result_len);
 
 #ifdef __cplusplus
 }

@@ -6,7 +6,7 @@
 Four parts, in this order:
 1. document 01's cases that are not in crate `cases`, and its impostors' inputs: the answers are the paper's, written here by hand beside each line;
 2. every limit: the answers follow from the limit, by the rules in this file, not from the program;
-3. the shell's own words: its help is the list of docs/KLEM.md;
+3. the shell's own words: its help is the list of docs/KLEM.md, and the examples of that page are true;
 4. the replay: calls on which the port and the Rust agreed (oracle/compare.py --sample), with those answers (scripts/replay.in, replay.out).
 """
 import os
@@ -253,6 +253,10 @@ def helped():
     case("help", "ok " + " ".join(u.split(" ")[0] for u in usages))
     for u in usages:
         case("help " + u.split(" ")[0], "ok " + u)
+    note("the examples of docs/KLEM.md, in its order")
+    case("new", "ok")
+    for line, answer in re.findall(r"\| `([^`]*)` gives `([^`]*)` \|$", page, re.M):
+        case(line, answer)
 
 
 WORDS = 1153

@@ -1,6 +1,6 @@
 /* How much stack the calls need. Each call is made on a stack of its own that was filled with a pattern; what is no longer pattern
  * behind the call was used. It prints the most for each group, this program's own frame of the call counted in, and fails where a call
- * needs more than bindings/README.md says. Linux alone: it needs ucontext. */
+ * needs more than klem.h and bindings/README.md say. `frames` computes the same from the code. Linux alone: it needs ucontext. */
 #include <stdio.h>
 #include <stdlib.h>
 #include <string.h>
@@ -9,13 +9,13 @@
 #include "klem.h"
 
 #define ROOM 65536
-#define MOST 6700       /* any call, as bindings/README.md has it */
-#define MOST_TABLE 2100 /* any call but a check or a run */
+#define MOST KLEM_STACK
+#define MOST_OTHER KLEM_STACK_OTHER
 
 static uint8_t stack[ROOM] __attribute__((aligned(64)));
 static ucontext_t here, there;
 static uint64_t r[KLEM_RESULT], table[KLEM_TABLE], frame[KLEM_FRAME];
-static uint8_t a[KLEM_PATH], b[KLEM_PATH], out[KLEM_PATH], text[159];
+static uint8_t a[KLEM_PATH], b[KLEM_PATH], out[KLEM_PATH], text[KLEM_TEXT_BYTES];
 static uint8_t block[4096];
 static size_t block_len;
 
@@ -39,7 +39,7 @@ static void texts(void) { klem_from_str((const uint8_t *)"\\AAAA.BBBB.^CCCC", 16
 static void written(void) { klem_as_string(a, KLEM_PATH, text, sizeof text, r, KLEM_RESULT); }
 static void resolved(void) { klem_resolve(b, KLEM_PATH, a, KLEM_PATH, out, KLEM_PATH, r, KLEM_RESULT); }
 static void parents(void) { klem_parent(a, KLEM_PATH, out, KLEM_PATH, r, KLEM_RESULT); }
-static void levels(void) { klem_add_level(table, KLEM_TABLE, a, KLEM_PATH, 0, r, KLEM_RESULT); }
+static void levels(void) { klem_add_level(table, KLEM_TABLE, a, KLEM_PATH, KLEM_SCOPE, r, KLEM_RESULT); }
 static void values(void) { klem_add_value_at_resolved_path(table, KLEM_TABLE, b, KLEM_PATH, a, KLEM_PATH, 1, r, KLEM_RESULT); }
 static void aliases(void) { klem_add_alias_at_resolved_path(table, KLEM_TABLE, b, KLEM_PATH, a, KLEM_PATH, b, KLEM_PATH, r, KLEM_RESULT); }
 static void searches(void) { klem_search(table, KLEM_TABLE, b, KLEM_PATH, a, KLEM_PATH, out, KLEM_PATH, r, KLEM_RESULT); }
@@ -63,12 +63,12 @@ static size_t packed(uint8_t *body, size_t n) {
     return n;
 }
 
-/* the deepest block: 15 Ifs, one in the other, around an If whose predicate is a term of depth 16 */
-static void deepest(void) {
-    size_t n = 16, i;
-    memset(block, 0x92, 15);
-    block[15] = 0x01;
-    for (i = 0; i < 16; i++) {
+/* Ifs, one in the other, the innermost with a term as its predicate: how deep each is */
+static void nest(unsigned ifs, unsigned term) {
+    size_t n = term, i;
+    memset(block, 0x92, term - 1);
+    block[term - 1] = 0x01;
+    for (i = 0; i < ifs; i++) {
         if (i > 0) {
             memmove(block + 1, block, n++);
             block[0] = 0x01;
@@ -92,32 +92,39 @@ static void say(const char *what, void (*call)(void), size_t most) {
 }
 
 int main(void) {
-    deepest();
-    klem_new(table, KLEM_TABLE, r, KLEM_RESULT);
+    klem_table_new(table, KLEM_TABLE, r, KLEM_RESULT);
     klem_frame_new(frame, KLEM_FRAME, r, KLEM_RESULT);
     klem_from_str((const uint8_t *)"\\AAAA", 5, a, KLEM_PATH, r, KLEM_RESULT);
     klem_from_str((const uint8_t *)"BBBB", 4, b, KLEM_PATH, r, KLEM_RESULT);
+    nest(KLEM_DEPTH, KLEM_DEPTH);
     used_by(runs);
-    if (r[0] != 0 || r[2] != 0 || r[4] != 16) {
+    if (r[0] != KLEM_OK || r[2] != KLEM_FINISHED || r[4] != KLEM_DEPTH) {
         fprintf(stderr, "stack: the deepest block does not run\n");
         return 1;
     }
     printf("stack, with what it takes to start a context:\n");
-    say("nothing", nothing, MOST_TABLE);
-    say("package length", lengths, MOST_TABLE);
-    say("name", names, MOST_TABLE);
-    say("text", texts, MOST_TABLE);
-    say("text written", written, MOST_TABLE);
-    say("resolve", resolved, MOST_TABLE);
-    say("parent", parents, MOST_TABLE);
-    say("add level", levels, MOST_TABLE);
-    say("add value", values, MOST_TABLE);
-    say("add alias", aliases, MOST_TABLE);
-    say("search", searches, MOST_TABLE);
-    say("search level", level_searches, MOST_TABLE);
-    say("set by path", gets, MOST_TABLE);
-    say("remove level", removes, MOST_TABLE);
-    say("check, depth 16", checks, MOST);
-    say("run, depth 16", runs, MOST);
+    say("nothing", nothing, MOST_OTHER);
+    say("package length", lengths, MOST_OTHER);
+    say("name", names, MOST_OTHER);
+    say("text", texts, MOST_OTHER);
+    say("text written", written, MOST_OTHER);
+    say("resolve", resolved, MOST_OTHER);
+    say("parent", parents, MOST_OTHER);
+    say("add level", levels, MOST_OTHER);
+    say("add value", values, MOST_OTHER);
+    say("add alias", aliases, MOST_OTHER);
+    say("search", searches, MOST_OTHER);
+    say("search level", level_searches, MOST_OTHER);
+    say("set by path", gets, MOST_OTHER);
+    say("remove level", removes, MOST_OTHER);
+    /* the deepest block that runs, and three that are refused for one level more: of terms, of statements, of both */
+    say("check, deepest", checks, MOST);
+    say("run, deepest", runs, MOST);
+    nest(KLEM_DEPTH, KLEM_DEPTH + 1);
+    say("term too deep", runs, MOST);
+    nest(KLEM_DEPTH + 1, KLEM_DEPTH);
+    say("If too deep", runs, MOST);
+    nest(KLEM_DEPTH + 1, KLEM_DEPTH + 1);
+    say("both too deep", runs, MOST);
     return failed;
 }

@@ -1,14 +1,31 @@
-//! Finds libklem_c.a and has it linked: in KLEM_LIB_DIR, or else where `rt staticlib klem_c` writes it.
-use std::{env, path::PathBuf, process::exit};
+//! Finds `libklem_c.a` and has it linked: in `KLEM_LIB_DIR`, or else where `rt staticlib klem_c` writes it. Asks the compiler's version.
+use std::{
+    env,
+    path::PathBuf,
+    process::{exit, Command},
+};
 
 fn main() {
     println!("cargo:rerun-if-env-changed=KLEM_LIB_DIR");
     println!("cargo:rerun-if-changed=build.rs");
 
-    // The archive is x86-64 code. On another target the linker would say so in its own, less plain words.
+    // The archive is x86-64 code, with sizes of 64 bits. On another target the linker would say so in its own, less plain words, or, where
+    // sizes have 32 bits, not at all.
     let target = env::var("CARGO_CFG_TARGET_ARCH").unwrap_or_default();
-    if target != "x86_64" {
-        stop(&format!("libklem_c.a is x86-64 code, and this build is for {target}: build for an x86-64 target (bindings/README.md, \"On Arm\")"));
+    let width = env::var("CARGO_CFG_TARGET_POINTER_WIDTH").unwrap_or_default();
+    if target != "x86_64" || width != "64" {
+        stop(&format!(
+            "libklem_c.a is x86-64 code of 64 bits, and this build is for {target} of {width}: build for an x86-64 target (bindings/README.md, \"On Arm\")"
+        ));
+    }
+
+    // From 1.80 on a compiler wants to be told which cfgs there are; from 1.81 on it has core::error::Error.
+    let minor = minor_version().unwrap_or(0);
+    if minor >= 80 {
+        println!("cargo:rustc-check-cfg=cfg(klem_core_error)");
+    }
+    if minor >= 81 {
+        println!("cargo:rustc-cfg=klem_core_error");
     }
 
     let dir = match env::var_os("KLEM_LIB_DIR") {
@@ -25,6 +42,12 @@ fn main() {
     }
     println!("cargo:rustc-link-search=native={}", dir.display());
     println!("cargo:rustc-link-lib=static=klem_c");
+}
+
+// 63 of `rustc 1.63.0`; none where the compiler says something else, which is then taken for an old one.
+fn minor_version() -> Option<u32> {
+    let said = Command::new(env::var_os("RUSTC")?).arg("--version").output().ok()?;
+    String::from_utf8(said.stdout).ok()?.strip_prefix("rustc 1.")?.split('.').next()?.parse().ok()
 }
 
 fn stop(why: &str) -> ! {

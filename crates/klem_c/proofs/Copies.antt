@@ -82,9 +82,11 @@ pub put-tail : {A : Type 0} (a : ℕ) (xs ys : List A) → a ≤ length xs → p
 put-tail {A} a xs ys h =
     ap (λ (r : List A). take a xs ++ (ys ++ r)) (post-is a (length xs) xs h ∙ drop-of-length-le xs {i = length xs} (omega arith)) ∙ ap (λ (r : List A). take a xs ++ r) (append-nil ys)
 
--- a count, then the bytes
-pub put-path : (xs ys : List ℕ) (n : ℕ) → 0 < length xs → putMid 1 (length (set xs 0 n) - 1) (set xs 0 n) ys ≡ n ∷ ys
-put-path xs ys n h = put-tail 1 (set xs 0 n) ys (simp length-set h) ∙ ap (λ (r : List ℕ). r ++ ys) (take-suc-set xs 0 n h)
+-- a count in two bytes, then the bytes
+pub put-path : (xs ys : List ℕ) (m n : ℕ) → 1 < length xs → putMid 2 (length (set (set xs 0 m) 1 n) - 2) (set (set xs 0 m) 1 n) ys ≡ m ∷ n ∷ ys
+put-path xs ys m n h =
+    put-tail 2 (set (set xs 0 m) 1 n) ys (simp (length-set, length-set) (omega arith))
+    ∙ ap (λ (r : List ℕ). r ++ ys) (take-suc-set (set xs 0 m) 1 n (simp length-set h) ∙ ap (λ (r : List ℕ). r ++ (n ∷ [])) (take-suc-set xs 0 m (omega arith)))
 
 -- the flags, then the numbers
 pub put-frame : (ws xs ys : List ℕ) (f : Frame) → length (f .set) ≡ cells → length ws ≡ frameSize → xs ≡ map flag (f .set) ++ drop cells ws → ys ≡ f .val →

@@ -151,13 +151,13 @@ pub level-numbered : (s : LevelSaid) → Numbered (levelSaid s)
 level-numbered (LevelSaid.At k) = tt
 level-numbered (LevelSaid.Refused e) = paper-numbered e
 
--- what is told beside a path of at most 32 components has a count of one byte: its 128 bytes hold no more
-name-small : (cs : List Component) → length (nameOf componentLimit cs .bytes) ≡ 128 → nameOf componentLimit cs .count < 256
+-- what is told beside a path of at most 32 components has a count of two bytes: its 128 bytes hold no more
+name-small : (cs : List Component) → length (nameOf componentLimit cs .bytes) ≡ 128 → nameOf componentLimit cs .count < 65536
 unfolding nameOf zeros
 name-small cs h =
     omega (arith, length-append (spell cs) (zeros (4 * (componentLimit - length cs))), length-spell cs, length-replicate {A = ℕ} (4 * (componentLimit - length cs)) 0)
 
-pub count-small : {A : Type 0} (name : AmlName) {s : Answer A} (a : Answer (Named A)) → record { memory = name; said = s } ≡ told componentLimit a → length (name .bytes) ≡ 128 → name .count < 256
+pub count-small : {A : Type 0} (name : AmlName) {s : Answer A} (a : Answer (Named A)) → record { memory = name; said = s } ≡ told componentLimit a → length (name .bytes) ≡ 128 → name .count < 65536
 count-small {A} name (gives v) e h = let m : name ≡ nameOf componentLimit (v .path) = ap (λ (x : Told A). x .memory) e in rw m (name-small (v .path) (rw m at h))
 count-small {A} name (refuses n p) e h = let m : name ≡ nameOf componentLimit [] = ap (λ (x : Told A). x .memory) e in rw m (name-small [] (rw m at h))
 

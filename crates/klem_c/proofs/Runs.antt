@@ -6,13 +6,8 @@ use Prim.Native.Nat.{ℕ}
 use native.Mathlib.Omega.{arith}
 use lib.ListN.{getD}
 use Rattle.pkg_length.specs.Refusal.{Answer, gives, refuses, refused}
-use Rattle.pkg_length.specs.declared.AmlError.{AmlError}
-use Rattle.pkg_length.proofs.Answers.{refuses-not}
 use Rattle.statement.specs.declared.CheckAnswer.{CheckAnswer}
 use Rattle.statement.specs.declared.RunAnswer.{RunAnswer}
-use Rattle.statement.specs.declared.End.{End}
-use Rattle.statement.proofs.Theorems.{refused-is-underived}
-use Rattle.klem_c.specs.Inside.{Began}
 use Rattle.statement.specs.Reading.{Stmts}
 use Rattle.statement.specs.Refusal.{readBlock}
 use Rattle.statement.specs.Meaning.{Ended, Outcome}
@@ -62,42 +57,23 @@ module _ (block frame : List ℕ) (budget : ℕ) (result : List ℕ) where
   run-unfit f = record { refusal = λ n p h. rw f; meaning = λ tree d. rw f; unfit = λ g. refl }
 
   module _ {r : ℕ} {result′ : List ℕ} (t : Reply) (a : RunAnswer) (k : HasRun block (frameAt frame) budget a) (f : fitsFrame result frame ≡ true)
-      (said : (r ≡ t .number) × (result′ ≡ wordsOf t)) (w : wordsOf t ≡ runWords (endSaid (a .end)) (a .units)) {b : Bool} (h : Began block (a .end) b) where
+      (said : (r ≡ t .number) × (result′ ≡ wordsOf t)) (w : wordsOf t ≡ runWords (endSaid (a .end)) (a .units)) where
     -- the check refused: the frame is not written
-    pub run-kept : b ≡ false → KlemRun block frame budget result (record { number = r; result = result′; lent = frame })
+    pub run-kept : a .began ≡ false → KlemRun block frame budget result (record { number = r; result = result′; lent = frame })
     run-kept q =
         record {
           refusal = λ n p g. tells _ result frame t f said (w ∙ ap (λ (o : Outcome). runWords (o .end) (o .units)) (k .refusal n p g)) refl;
-          meaning = λ tree d. absurd (h .stopped q tree d);
+          meaning = λ tree d. not-both (k .started tree d) q;
           unfit = λ g. not-both f g;
         }
 
     -- it ran: the units are told, and the frame is the run's
-    pub run-left : {frame′ : List ℕ} → b ≡ true → frame′ ≡ frameWords (a .frame) → KlemRun block frame budget result (record { number = r; result = result′; lent = frame′ })
+    pub run-left : {frame′ : List ℕ} → a .began ≡ true → frame′ ≡ frameWords (a .frame) → KlemRun block frame budget result (record { number = r; result = result′; lent = frame′ })
     run-left q l =
         record {
-          refusal = λ n p g. absurd (h .ran q n p g (ap (λ (o : Outcome). o .end) (k .refusal n p g)));
+          refusal = λ n p g. not-both q (k .stopped n p g);
           meaning = λ tree d.
               (let m = k .meaning tree d in
               tells _ result frame t f said (w ∙ ap (λ (o : Outcome). runWords (o .end) (o .units)) m) (l ∙ ap (λ (o : Outcome). frameWords (o .frame)) m));
           unfit = λ g. not-both f g;
-        }
-
--- ## Whether a block began to run
-
-module _ (block : List ℕ) {end : End} where
-  -- a run that ended with no refusal
-  pub began-ended : (x : Ended) → endSaid end ≡ gives x → Began block end true
-  began-ended x e = record { ran = λ t n p g q. refuses-not (sym q ∙ e); stopped = λ g. not-both refl g }
-
-  module _ (v : CheckAnswer) (k : Checked block v) where
-    pub began-derived : v ≡ CheckAnswer.Accepted → Began block end true
-    began-derived q =
-        record { ran = λ t n p g e. (let d = k .reading q in refused-is-underived block n p g (d .0) (d .1)); stopped = λ g. not-both refl g }
-
-    pub began-not : (e : AmlError) → v ≡ CheckAnswer.Refused e → Began block end false
-    began-not e q =
-        record {
-          ran = λ t. not-both t refl;
-          stopped = λ g tree d. (let a = k .derived tree d in let z : _≡_ {A = ℕ} 0 1 = cc in omega arith);
         }

@@ -11,7 +11,7 @@ use Rattle.statement.specs.Meaning.{width, Ended, finished, returned, breakOut,
 use Rattle.klem_c.specs.Result.{resultWords, badSlice, filled, resultOf, sized, After, leaves, answers}
 use Rattle.klem_c.specs.Frames.{fitsFrame, frameAt, frames}
 
--- 0 exactly where the grammar derives the block; else the refusal; 27 where the result does not fit
+-- 0 exactly where the grammar derives the block; else the refusal; KLEM_BAD_SLICE where the result does not fit
 pub record KlemCheck (block result : List ℕ) (left : After) : Type 0 where
   pub derived : (t : Stmts) → Derives block t → left ≡ answers (sized resultWords result) result (gives [])
   pub reading : left .number ≡ 0 → (t : Stmts) × Derives block t

@@ -2,13 +2,13 @@
 use Prim.Native.Nat.{ℕ}
 use mathlib.Core.Bool.{Bool, _&&_, not}
 use mathlib.Core.List.{List, [], _++_, map}
-use lib.Dec.{eqb}
+use lib.Dec.{eqb, ltb}
 use lib.ListN.{take, drop}
-use Rattle.pkg_length.specs.Refusal.{gives}
+use Rattle.pkg_length.specs.Refusal.{gives, refuses, pick}
 use Rattle.statement.specs.Grammar.{cells}
 use Rattle.statement.specs.Frames.{fresh, held, wrote}
 use Rattle.statement.specs.declared.frame.Frame.{Frame}
-use Rattle.klem_c.specs.Result.{resultWords, resultOf, valued, one, flag, sized, After, leaves, answers}
+use Rattle.klem_c.specs.Result.{badCell, resultWords, resultOf, valued, one, flag, sized, After, leaves, answers}
 
 -- KLEM_FRAME: the words of a frame
 abbrev pub frameSize : ℕ
@@ -39,5 +39,9 @@ klemFrameNew frame result = frames result frame (resultOf (gives [])) fresh
 unfoldable pub klemFrameGet : List ℕ → ℕ → List ℕ → After
 klemFrameGet frame cell result = answers (fitsFrame result frame) result (valued one (held (frameAt frame) cell))
 
-unfoldable pub klemFrameWith : List ℕ → ℕ → ℕ → List ℕ → After
-klemFrameWith frame cell number result = frames result frame (resultOf (gives [])) (wrote (frameAt frame) cell number)
+-- a cell that is not there is refused, and the frame's words stay
+unfoldable pub klemFrameSet : List ℕ → ℕ → ℕ → List ℕ → After
+klemFrameSet frame cell number result =
+    leaves (fitsFrame result frame) result frame
+    (resultOf (pick (ltb cell cells) (gives []) (refuses badCell cell)))
+    (pick (ltb cell cells) (frameWords (wrote (frameAt frame) cell number)) frame)

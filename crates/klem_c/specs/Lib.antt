@@ -4,4 +4,3 @@ pub mod Frames
 pub mod Lengths
 pub mod Tables
 pub mod Blocks
-pub mod Inside

@@ -1,5 +1,5 @@
--- The calls on names and paths. A path is KLEM_PATH bytes: the count, and four bytes for each component.
-use Prim.Native.Nat.{ℕ}
+-- The calls on names and paths. A path is KLEM_PATH bytes: the count in two bytes, low first, and four bytes for each component.
+use Prim.Native.Nat.{ℕ, _+_, _*_, _/_, _%_}
 use mathlib.Core.Bool.{Bool, _&&_}
 use mathlib.Core.List.{List, [], _∷_}
 use lib.ListN.{length, getD, drop}
@@ -14,13 +14,13 @@ use Rattle.klem_c.specs.Result.{resultWords, resultOf, valued, nothing, 
 
 -- KLEM_PATH: the bytes of a path
 abbrev pub pathSize : ℕ
-pathSize = 129
+pathSize = 130
 
 abbrev pub pathAt : List ℕ → AmlName
-pathAt bs = record { count = getD bs 0 0; bytes = drop 1 bs }
+pathAt bs = record { count = getD bs 0 0 + 256 * getD bs 1 0; bytes = drop 2 bs }
 
 abbrev pub pathBytes : AmlName → List ℕ
-pathBytes name = name .count ∷ name .bytes
+pathBytes name = name .count % 256 ∷ name .count / 256 ∷ name .bytes
 
 -- the slices of a call: its result and one path, two, or three, `out` counted
 abbrev pub fitsPath : List ℕ → List ℕ → Bool

@@ -7,9 +7,19 @@ use lib.ListN.{length, getD, replicate}
 use Rattle.pkg_length.specs.Refusal.{Answer, gives, refuses, andThen, pick}
 use Rattle.klem_c.specs.declared.reply.Reply.{Reply}
 
+-- The library's own numbers start at 1001, past any that the paper gives.
+
 -- KLEM_BAD_SLICE: a slice whose length is fixed has another
 abbrev pub badSlice : ℕ
-badSlice = 27
+badSlice = 1001
+
+-- KLEM_BAD_TYPE: a level's type is over 5
+abbrev pub badType : ℕ
+badType = 1002
+
+-- KLEM_BAD_CELL: a frame has no such cell; the place is the cell
+abbrev pub badCell : ℕ
+badCell = 1003
 
 -- KLEM_RESULT: the words of a result
 abbrev pub resultWords : ℕ
@@ -48,7 +58,7 @@ pub record After : Type 0 where
   pub result : List ℕ
   pub lent : List ℕ
 
--- where the slices fit, the result and what else was lent are written, and the result's first word is returned; else 27, and all stays
+-- where the slices fit, the result and what else was lent are written, and the result's first word is returned; else KLEM_BAD_SLICE, and all stays
 abbrev pub leaves : Bool → List ℕ → List ℕ → List ℕ → List ℕ → After
 leaves fit result lent words new =
     pick fit

@@ -11,12 +11,8 @@ use Rattle.namespace.specs.Calls.{newCall, addLevelCall, removeLevelCall, addVa
 use Rattle.namespace.specs.Search.{searchCall, levelCall}
 use Rattle.namespace.specs.declared.LevelType.{LevelType}
 use Rattle.namespace.specs.declared.LevelType.the-variants.{Scope, Device, Processor, PowerResource, ThermalZone, MethodLocals}
-use Rattle.klem_c.specs.Result.{resultWords, resultOf, valued, nothing, one, sized, After, leaves, answers}
+use Rattle.klem_c.specs.Result.{badType, resultWords, resultOf, valued, nothing, one, sized, After, leaves, answers}
 use Rattle.klem_c.specs.Paths.{pathAt, fitsPath, fitsTwo, fitsThree, names}
-
--- KLEM_BAD_TYPE: a level's type is over 5
-abbrev pub badType : ℕ
-badType = 28
 
 abbrev pub levelType : ℕ → LevelType
 levelType n =
@@ -39,8 +35,8 @@ lefts fit result table f l = leaves fit result table (resultOf (valued f (l .sai
 abbrev pub edits : {A : Type 0} → Bool → List ℕ → List ℕ → (A → List ℕ) → Answer (Edited A) → After
 edits fit result table f a = lefts fit result table f (left limits table a)
 
-unfoldable pub klemNew : List ℕ → List ℕ → After
-klemNew table result = edits (sized resultWords result) result table nothing (newCall limits table)
+unfoldable pub klemTableNew : List ℕ → List ℕ → After
+klemTableNew table result = edits (sized resultWords result) result table nothing (newCall limits table)
 
 unfoldable pub klemAddLevel : List ℕ → List ℕ → ℕ → List ℕ → After
 klemAddLevel table path typ result = edits (fitsPath result path) result table nothing (typed typ (λ t. addLevelCall limits table (pathAt path) t))

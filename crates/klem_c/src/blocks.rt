@@ -1,15 +1,17 @@
 // Control blocks and frames.
 ghost use mathlib.Core.Path.{_≡_};
 ghost use mathlib.Core.List.{[]};
-ghost use Rattle.klem_c.specs.Frames.{klemFrameNew, klemFrameGet, klemFrameWith};
+ghost use Rattle.klem_c.specs.Frames.{klemFrameNew, klemFrameGet, klemFrameSet};
 ghost use Rattle.klem_c.specs.Blocks.{KlemCheck, KlemRun};
-ghost use Rattle.klem_c.specs.Inside.{Began};
 use crate::frames;
 use crate::reply;
 use crate::slices;
-use statement::CheckAnswer;
-use statement::End;
 use statement::frame::Frame;
+
+// What klem_frame_set returns where a frame has no such cell.
+const BAD_CELL: u64 = 1003;
+
+const CELLS: usize = 15;
 
 #[no_mangle]
 pub extern "C" fn klem_check(block: &[u8], result: &mut [u64]) -> u64
@@ -21,22 +23,6 @@ pub extern "C" fn klem_check(block: &[u8], result: &mut [u64]) -> u64
     slices::BAD_SLICE
 }
 
-// Whether the check let the block run, which a refusal alone leaves open: then it is asked again.
-fn began(block: &[u8], end: End) -> bool
-    ensures { λ r. ⌜ Began (now (block .entry)) end r ⌝ }
-{
-    match end {
-        End::Finished => true,
-        End::Returned(_) => true,
-        End::BreakOut => true,
-        End::ContinueOut => true,
-        End::Refused(_) => match statement::check(block) {
-            CheckAnswer::Accepted => true,
-            CheckAnswer::Refused(_) => false,
-        },
-    }
-}
-
 #[no_mangle]
 pub extern "C" fn klem_run(block: &[u8], frame: &mut [u64], budget: u64, result: &mut [u64]) -> u64
     ensures { λ r. ⌜ KlemRun (now (block .entry)) (now (frame .entry)) budget (now (result .entry)) (record { number = r; result = now (result .exit); lent = now (frame .exit) }) ⌝ }
@@ -44,7 +30,8 @@ pub extern "C" fn klem_run(block: &[u8], frame: &mut [u64], budget: u64, result:
     if slices::fit_one(result.len(), frame.len(), slices::FRAME) {
         let a = statement::run(block, frames::frame_in(frame), budget);
         let end = a.end;
-        if began(block, end) {
+        let began = a.began;
+        if began {
             let left = a.frame;
             frames::put_frame(frame, left);
             return reply::tell(result, reply::end(end, a.units));
@@ -77,18 +64,21 @@ pub extern "C" fn klem_frame_get(frame: &[u64], cell: usize, result: &mut [u64])
 }
 
 #[no_mangle]
-pub extern "C" fn klem_frame_with(
+pub extern "C" fn klem_frame_set(
     frame: &mut [u64],
     cell: usize,
     number: u64,
     result: &mut [u64],
 ) -> u64
-    ensures { λ r. ⌜ record { number = r; result = now (result .exit); lent = now (frame .exit) } ≡ klemFrameWith (now (frame .entry)) cell number (now (result .entry)) ⌝ }
+    ensures { λ r. ⌜ record { number = r; result = now (result .exit); lent = now (frame .exit) } ≡ klemFrameSet (now (frame .entry)) cell number (now (result .entry)) ⌝ }
 {
     if slices::fit_one(result.len(), frame.len(), slices::FRAME) {
-        let f = frames::frame_in(frame);
-        frames::put_frame(frame, f.with(cell, number));
-        return reply::tell(result, reply::given(0, 0, 0));
+        if cell < CELLS {
+            let f = frames::frame_in(frame);
+            frames::put_frame(frame, f.with(cell, number));
+            return reply::tell(result, reply::given(0, 0, 0));
+        }
+        return reply::tell(result, reply::numbered(BAD_CELL, cell as u64));
     }
     slices::BAD_SLICE
 }

@@ -5,7 +5,7 @@ ghost use mathlib.Core.List.{[], _∷_};
 ghost use Prim.Native.Nat.{_<_};
 ghost use lib.Dec.{eqb};
 ghost use lib.ListN.{length};
-ghost use Rattle.pkg_length.specs.Refusal.{pick, gives, refused};
+ghost use Rattle.pkg_length.specs.Refusal.{pick, gives, refuses, refused};
 ghost use Rattle.pkg_length.specs.Pkg.{rawSaid, lengthSaid, pkgSaid};
 ghost use Rattle.name_object.specs.Name.{nameSaid};
 ghost use Rattle.path.specs.Normal.{pathSaid, flagSaid};
@@ -65,7 +65,7 @@ pub(crate) fn tell(result: &mut [u64], reply: Reply) -> u64
 
 // The same, and the path to `out` where there is one.
 pub(crate) fn tell_path(out: &mut [u8], result: &mut [u64], name: AmlName, reply: Reply) -> u64
-    requires { ⌜ (length (now out) ≡ pathSize) × (length (now result) ≡ resultWords) × (name .count < 256) ⌝ }
+    requires { ⌜ (length (now out) ≡ pathSize) × (length (now result) ≡ resultWords) × (name .count < 65536) ⌝ }
     ensures { λ r. ⌜ (r ≡ reply .number) × (now (result .exit) ≡ wordsOf reply) × (now (out .exit) ≡ pick (eqb (reply .number) 0) (pathBytes name) (now (out .entry))) ⌝ }
 {
     if reply.number == 0 {
@@ -75,17 +75,23 @@ pub(crate) fn tell_path(out: &mut [u8], result: &mut [u64], name: AmlName, reply
     tell(result, reply)
 }
 
-pub(crate) fn refusal(e: AmlError) -> Reply
-    ensures { λ r. ⌜ wordsOf r ≡ resultOf (refused e) ⌝ }
+pub(crate) fn numbered(number: u64, place: u64) -> Reply
+    ensures { λ r. ⌜ wordsOf r ≡ resultOf (refuses number place) ⌝ }
 {
-    let n = e.numbered();
     Reply {
-        number: n.0 as u64,
-        place: n.1 as u64,
+        number,
+        place,
         first: 0,
         second: 0,
         third: 0,
     }
+}
+
+pub(crate) fn refusal(e: AmlError) -> Reply
+    ensures { λ r. ⌜ wordsOf r ≡ resultOf (refused e) ⌝ }
+{
+    let n = e.numbered();
+    numbered(n.0 as u64, n.1 as u64)
 }
 
 pub(crate) fn given(first: u64, second: u64, third: u64) -> Reply

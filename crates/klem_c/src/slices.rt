@@ -1,7 +1,7 @@
 // Slices whose length is fixed, and paths in them.
 ghost use mathlib.Core.Path.{_≡_};
 ghost use mathlib.Core.Bool.{true, _&&_};
-ghost use Prim.Native.Nat.{_<_};
+ghost use Prim.Native.Nat.{_+_, _*_, _/_, _%_, _<_};
 ghost use lib.Dec.{eqb};
 ghost use lib.ListN.{length};
 ghost use Rattle.klem_c.specs.Result.{resultWords};
@@ -9,9 +9,9 @@ ghost use Rattle.klem_c.specs.Paths.{pathSize, pathAt, pathBytes};
 use name_object::AmlName;
 
 // What a call returns where a slice whose length is fixed has another.
-pub(crate) const BAD_SLICE: u64 = 27;
+pub(crate) const BAD_SLICE: u64 = 1001;
 
-pub(crate) const PATH: usize = 129;
+pub(crate) const PATH: usize = 130;
 
 pub(crate) const FRAME: usize = 30;
 
@@ -69,23 +69,44 @@ pub(crate) fn copy(dst: &mut [u8], src: &[u8])
     }
 }
 
+// A count in two bytes, low first.
+fn count_of(low: u8, high: u8) -> usize
+    ensures { λ r. ⌜ r ≡ low + 256 * high ⌝ }
+{
+    low as usize + 256 * (high as usize)
+}
+
+fn low(count: usize) -> u8
+    ensures { λ r. ⌜ r ≡ count % 256 ⌝ }
+{
+    (count % 256) as u8
+}
+
+fn high(count: usize) -> u8
+    requires { ⌜ count < 65536 ⌝ }
+    ensures { λ r. ⌜ r ≡ count / 256 ⌝ }
+{
+    (count / 256) as u8
+}
+
 // The path that bytes hold.
 pub(crate) fn path_in(src: &[u8]) -> AmlName
     requires { ⌜ length (now src) ≡ pathSize ⌝ }
     ensures { λ r. ⌜ r ≡ pathAt (now (src .entry)) ⌝ }
 {
     let mut bytes = [0; 128];
-    copy(&mut bytes, &src[1..]);
+    copy(&mut bytes, &src[2..]);
     AmlName {
-        count: src[0] as usize,
+        count: count_of(src[0], src[1]),
         bytes,
     }
 }
 
 pub(crate) fn put_path(out: &mut [u8], name: AmlName)
-    requires { ⌜ (length (now out) ≡ pathSize) × (name .count < 256) ⌝ }
+    requires { ⌜ (length (now out) ≡ pathSize) × (name .count < 65536) ⌝ }
     ensures { λ r. ⌜ now (out .exit) ≡ pathBytes name ⌝ }
 {
-    out[0] = name.count as u8;
-    copy(&mut out[1..], &name.bytes);
+    out[0] = low(name.count);
+    out[1] = high(name.count);
+    copy(&mut out[2..], &name.bytes);
 }

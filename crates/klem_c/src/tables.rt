@@ -1,16 +1,16 @@
 // The table.
 ghost use mathlib.Core.Path.{_≡_};
 ghost use mathlib.Core.List.{[]};
-ghost use Rattle.pkg_length.specs.Refusal.{refuses};
 ghost use Rattle.table.specs.Limits.{limits};
 ghost use Rattle.table.specs.Memory.{wellFormed};
-ghost use Rattle.klem_c.specs.Result.{resultOf, wordsOf};
-ghost use Rattle.klem_c.specs.Tables.{badType, levelType, klemNew, klemAddLevel, klemRemoveLevel, klemAddValue, klemAddValueAtResolvedPath, klemAddAliasAtResolvedPath, klemGet, klemSet, klemGetHandle, klemGetByPath, klemSetByPath, klemSearch, klemSearchForLevel};
+ghost use Rattle.klem_c.specs.Tables.{levelType, klemTableNew, klemAddLevel, klemRemoveLevel, klemAddValue, klemAddValueAtResolvedPath, klemAddAliasAtResolvedPath, klemGet, klemSet, klemGetHandle, klemGetByPath, klemSetByPath, klemSearch, klemSearchForLevel};
 use crate::reply;
-use crate::reply::Reply;
 use crate::slices;
 use namespace::AmlHandle;
 use namespace::LevelType;
+
+// What a call returns where a level's type is over 5.
+const BAD_TYPE: u64 = 1002;
 
 // 0 to 5, as klem.h numbers them.
 fn level_type(typ: u64) -> LevelType
@@ -26,18 +26,6 @@ fn level_type(typ: u64) -> LevelType
     }
 }
 
-fn bad_type() -> Reply
-    ensures { λ r. ⌜ wordsOf r ≡ resultOf (refuses badType 0) ⌝ }
-{
-    Reply {
-        number: 28,
-        place: 0,
-        first: 0,
-        second: 0,
-        third: 0,
-    }
-}
-
 #[no_mangle]
 pub extern "C" fn klem_well_formed(table: &[u64]) -> bool
     ensures { λ r. ⌜ r ≡ wellFormed limits (now (table .entry)) ⌝ }
@@ -46,8 +34,8 @@ pub extern "C" fn klem_well_formed(table: &[u64]) -> bool
 }
 
 #[no_mangle]
-pub extern "C" fn klem_new(table: &mut [u64], result: &mut [u64]) -> u64
-    ensures { λ r. ⌜ record { number = r; result = now (result .exit); lent = now (table .exit) } ≡ klemNew (now (table .entry)) (now (result .entry)) ⌝ }
+pub extern "C" fn klem_table_new(table: &mut [u64], result: &mut [u64]) -> u64
+    ensures { λ r. ⌜ record { number = r; result = now (result .exit); lent = now (table .exit) } ≡ klemTableNew (now (table .entry)) (now (result .entry)) ⌝ }
 {
     if slices::fit(result.len()) {
         let a = namespace::new(table);
@@ -67,7 +55,7 @@ pub extern "C" fn klem_add_level(
 {
     if slices::fit_one(result.len(), path.len(), slices::PATH) {
         if 5 < typ {
-            return reply::tell(result, bad_type());
+            return reply::tell(result, reply::numbered(BAD_TYPE, 0));
         }
         let a = namespace::add_level(table, slices::path_in(path), level_type(typ));
         return reply::tell(result, reply::edit(a));

@@ -110,9 +110,11 @@ run-ready s v c e = let (t, d) = c .reading e in (d .short, is-acc (lists-comple
 
 -- a run of a block that nothing derives: the check's refusal, the frame as it came, no unit
 pub run-refuses : (s : List ℕ) (f : Frame) (budget : ℕ) (v : CheckAnswer) (e : AmlError) → Checked s v → v ≡ CheckAnswer.Refused e →
-    HasRun s f budget (record { end = End.Refused e; units = 0; frame = f })
+    HasRun s f budget (record { began = false; end = End.Refused e; units = 0; frame = f })
 run-refuses s f budget v e c q =
     record {
+      stopped = λ n p h. refl;
+      started = λ t d. absurd (let z : v ≡ CheckAnswer.Accepted = c .derived t d in let w : _≡_ {A = ℕ} 0 1 = cc in omega arith);
       refusal = λ n p h. again (refused e) (refuses n p) (go v q n p (c .refusal n p h));
       meaning = λ t d. absurd (let z : v ≡ CheckAnswer.Accepted = c .derived t d in let w : _≡_ {A = ℕ} 0 1 = cc in omega arith);
     }
@@ -129,9 +131,11 @@ run-refuses s f budget v e c q =
 
 -- a run of any other block is the meaning of its one reading, for every frame and budget
 pub run-is-meaning : (s : List ℕ) (f : Frame) (budget : ℕ) (v : CheckAnswer) (x : Ran) (e : End) → Checked s v → v ≡ CheckAnswer.Accepted →
-    x ≡ ranOf (readList depthLimit 0 s) f budget → endSaid e ≡ x .end → HasRun s f budget (record { end = e; units = budget - x .left; frame = x .frame })
+    x ≡ ranOf (readList depthLimit 0 s) f budget → endSaid e ≡ x .end → HasRun s f budget (record { began = true; end = e; units = budget - x .left; frame = x .frame })
 run-is-meaning s f budget v x e c q ex ee =
     record {
+      stopped = λ n p h. absurd (let (t, d) = c .reading q in refused-is-underived s n p h t d);
+      started = λ t d. refl;
       refusal = λ n p h. absurd (let (t, d) = c .reading q in refused-is-underived s n p h t d);
       meaning = λ t d.
           go (endSaid e) ee

@@ -1,5 +1,6 @@
 -- What the public functions promise.
 use mathlib.Core.Path.{_≡_}
+use mathlib.Core.Bool.{true, false}
 use mathlib.Core.List.{List}
 use Prim.Native.Nat.{ℕ, _≤_}
 use lib.ListN.{length}
@@ -45,8 +46,10 @@ endSaid (End.Refused e) = refused e
 abbrev pub runSaid : RunAnswer → Outcome
 runSaid r = record { end = endSaid (r .end); units = r .units; frame = r .frame }
 
--- a block that nothing derives is refused as the check refuses it, with the frame as it came and no unit used;
--- of any other the run is the meaning of its reading
+-- a block that nothing derives is refused as the check refuses it, with the frame as it came and no unit used, and execution did not begin;
+-- of any other it began, and the run is the meaning of its reading
 pub record HasRun (s : List ℕ) (f : Frame) (budget : ℕ) (r : RunAnswer) : Type 0 where
+  pub stopped : (n p : ℕ) → readBlock s ≡ refuses n p → r .began ≡ false
+  pub started : (t : Stmts) → Derives s t → r .began ≡ true
   pub refusal : (n p : ℕ) → readBlock s ≡ refuses n p → runSaid r ≡ record { end = refuses n p; units = 0; frame = f }
   pub meaning : (t : Stmts) → Derives s t → runSaid r ≡ mean width t f budget

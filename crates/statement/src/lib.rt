@@ -42,8 +42,9 @@ pub enum End {
     Refused(AmlError),
 }
 
-// With the units used, and the frame.
+// With whether execution began, which a refusal alone does not tell, the units used, and the frame.
 pub struct RunAnswer {
+    pub began: bool,
     pub end: End,
     pub units: u64,
     pub frame: Frame,
@@ -56,6 +57,7 @@ pub fn run(block: &[u8], frame: Frame, budget: u64) -> RunAnswer
     let v = check(block);
     match v {
         CheckAnswer::Refused(e) => RunAnswer {
+            began: false,
             end: End::Refused(e),
             units: 0,
             frame,
@@ -68,6 +70,7 @@ pub fn run(block: &[u8], frame: Frame, budget: u64) -> RunAnswer
             let end = ended(out);
             let left = Frame { set, val };
             RunAnswer {
+                began: true,
                 end,
                 units: budget - r.units,
                 frame: left,

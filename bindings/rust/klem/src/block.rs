@@ -7,6 +7,7 @@ use core::fmt;
 pub struct Frame([u64; FRAME]);
 
 /// How a run ended, where it was not refused.
+// These four are all that a block can do; what else stops a run is a refusal. So a caller may match them without a rest.
 #[derive(Clone, Copy, PartialEq, Eq, Hash, Debug)]
 pub enum Ended {
     /// The block came to its end.
@@ -21,24 +22,31 @@ pub enum Ended {
 
 /// What a run gives.
 #[derive(Clone, Copy, PartialEq, Eq, Hash, Debug)]
+#[must_use = "a run may have been refused: `end` says so"]
 pub struct Run {
     /// How it ended. 22 and 23 are given after part of the block has run, and leave the frame as the run left it; any other refusal
     /// is given before anything runs, and leaves the frame as it was.
     pub end: Result<Ended, Error>,
-    /// The units used: one for each statement begun, and one for each time that a While's predicate is evaluated.
+    /// The units used: one for each statement begun, and one for each time that a While's predicate is evaluated. A refusal has them too.
     pub units: u64,
 }
 
-/// Whether a block is well-formed: accepted, or refused with 1 to 5.
+/// Whether a block is well-formed: whether [`run`] would begin to execute it.
+///
+/// # Errors
+///
+/// 5 [`Error::BlockTooLong`]; then, from left to right, 1 [`Error::UnexpectedEndOfStream`], 2 [`Error::InvalidPkgLength`],
+/// 3 [`Error::BadOpcode`], 4 [`Error::TooDeep`].
 #[inline]
 pub fn check(block: &[u8]) -> Result<(), Error> {
-    let mut a = Answer::new();
-    // SAFETY: both pointers come with the lengths of what they point to, and the result is this call's own.
-    let n = unsafe { raw::klem_check(block.as_ptr(), block.len(), a.ptr(), RESULT) };
-    a.read(n).map(|_| ())
+    // SAFETY: one call, with the result's words as they are given here; `block` comes with its length, and is only read.
+    unsafe { raw::ask(|a| raw::klem_check(block.as_ptr(), block.len(), a, RESULT)) }.map(|_| ())
 }
 
 /// Checks a whole block, then executes it over a frame within a budget of units.
+///
+/// What it refuses is in [`Run::end`]: what [`check`] refuses, before anything runs; then 22 [`Error::BudgetSpent`] or 23
+/// [`Error::Unset`], whichever comes first in the run.
 ///
 /// ```
 /// use klem::{run, Ended, Frame};
@@ -49,12 +57,15 @@ pub fn check(block: &[u8]) -> Result<(), Error> {
 /// assert_eq!((ran.end, ran.units), (Ok(Ended::Returned(0)), 10));
 /// ```
 #[inline]
+#[must_use = "a run may have been refused: `end` says so"]
 pub fn run(block: &[u8], frame: &mut Frame, budget: u64) -> Run {
     let mut a = Answer::new();
     // SAFETY: every pointer comes with the length of what it points to. The frame and the result may be written: one is lent as
     // `&mut`, the other is this call's own.
     let n = unsafe { raw::klem_run(block.as_ptr(), block.len(), frame.0.as_mut_ptr(), FRAME, budget, a.ptr(), RESULT) };
-    let end = a.read(n).and_then(|[how, number, _]| match how {
+    // SAFETY: `n` is what the call returned that was given these words.
+    let (said, units) = unsafe { (a.read(n), a.units(n)) };
+    let end = said.and_then(|[how, number, _]| match how {
         0 => Ok(Ended::Finished),
         1 => Ok(Ended::Returned(number)),
         2 => Ok(Ended::BreakOut),
@@ -62,7 +73,7 @@ pub fn run(block: &[u8], frame: &mut Frame, budget: u64) -> Run {
         // The header has no other end.
         _ => Err(Error::NotInTable(0)),
     });
-    Run { end, units: a.units() }
+    Run { end, units }
 }
 
 impl Frame {
@@ -74,40 +85,49 @@ impl Frame {
 
     /// A frame whose cells are all unset.
     #[inline]
-    pub fn new() -> Frame {
-        // What the call writes anyway stands here before, so that there is nothing to say where it refused.
-        let mut words = [0; FRAME];
-        let mut a = Answer::new();
-        // SAFETY: both are this call's own, with their lengths. It refuses nothing but slices of a wrong length.
-        let _ = unsafe { raw::klem_frame_new(words.as_mut_ptr(), FRAME, a.ptr(), RESULT) };
-        Frame(words)
+    #[must_use]
+    pub const fn new() -> Frame {
+        Frame([0; FRAME])
     }
 
-    /// What a cell holds; 23 where it is unset, or is not there.
+    /// What a cell holds.
+    ///
+    /// # Errors
+    ///
+    /// 23 [`Error::Unset`], where the cell is unset or is not there.
     #[inline]
     pub fn get(&self, cell: usize) -> Result<u64, Error> {
-        let mut a = Answer::new();
-        // SAFETY: both pointers come with the lengths of what they point to, and the result is this call's own.
-        let n = unsafe { raw::klem_frame_get(self.0.as_ptr(), FRAME, cell, a.ptr(), RESULT) };
-        let [number, _, _] = a.read(n)?;
+        // SAFETY: one call, with the result's words as they are given here; the frame comes with its length, and is only read.
+        let [number, _, _] = unsafe { raw::ask(|a| raw::klem_frame_get(self.0.as_ptr(), FRAME, cell, a, RESULT)) }?;
         Ok(number)
     }
 
-    /// Sets a cell. Where it is not there (15 and more), no cell is set.
+    /// Sets a cell.
+    ///
+    /// # Errors
+    ///
+    /// 1003 [`Error::BadCell`], where the cell is not there (15 and more); then the frame stays as it was.
     #[inline]
-    pub fn set(&mut self, cell: usize, number: u64) {
-        let mut a = Answer::new();
-        // SAFETY: both pointers come with the lengths of what they point to, and both may be written: one is lent as `&mut`, the
-        // other is this call's own. It refuses nothing but slices of a wrong length.
-        let _ = unsafe { raw::klem_frame_with(self.0.as_mut_ptr(), FRAME, cell, number, a.ptr(), RESULT) };
+    pub fn set(&mut self, cell: usize, number: u64) -> Result<(), Error> {
+        // SAFETY: one call, with the result's words as they are given here; the frame comes with its length, and may be written, since
+        // it is lent as `&mut`.
+        unsafe { raw::ask(|a| raw::klem_frame_set(self.0.as_mut_ptr(), FRAME, cell, number, a, RESULT)) }.map(|_| ())
     }
 
-    /// The frame with a cell set, as [`set`](Frame::set) sets it.
+    /// The frame with a cell set.
+    ///
+    /// # Errors
+    ///
+    /// As [`set`](Frame::set).
     #[inline]
-    #[must_use]
-    pub fn with(mut self, cell: usize, number: u64) -> Frame {
-        self.set(cell, number);
-        self
+    pub fn with(mut self, cell: usize, number: u64) -> Result<Frame, Error> {
+        self.set(cell, number)?;
+        Ok(self)
+    }
+
+    #[cfg(test)]
+    pub(crate) const fn words(&self) -> &[u64; FRAME] {
+        &self.0
     }
 }
 

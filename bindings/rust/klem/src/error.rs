@@ -1,10 +1,14 @@
 use core::fmt;
 
-/// A refusal: the 26 of the table of refusals, under its names and in its order, each with its place where the table gives one.
+/// A refusal: the 26 of the table of refusals, under its names and in its order, each with its place where the table gives one; and the
+/// one number of the archive's own that a call of this crate can give.
 ///
-/// [`number`](Error::number) gives the table's number, [`place`](Error::place) the place, 0 where there is none. docs/REFUSALS.md
+/// [`number`](Error::number) gives the number, [`place`](Error::place) the place, 0 where there is none. docs/REFUSALS.md
 /// says of each when it is given and by which calls.
+///
+/// The table grows: a `match` needs a last arm for the rest.
 #[derive(Clone, Copy, PartialEq, Eq, Hash, Debug)]
+#[non_exhaustive]
 pub enum Error {
     /// 1: a byte is wanted past the end of the part being read; where that end is.
     UnexpectedEndOfStream(usize),
@@ -58,9 +62,11 @@ pub enum Error {
     OutTooSmall,
     /// 26: memory holds no path.
     BadPath,
-    /// A number that the table of refusals does not have. No call of this crate gives it while the archive is the one that the crate
-    /// was written for: the archive's own 27 and 28 are for slices of a wrong length and for a wrong level type, and the types here
-    /// have neither. It is here so that an archive that does not fit is seen, and nothing panics.
+    /// 1003: a frame has no such cell to set; its number. It is the archive's own, and not in the table of refusals.
+    BadCell(usize),
+    /// Any other number. No call of this crate gives it while the archive is the one that the crate was written for: the archive's own
+    /// 1001 and 1002 are for slices of a wrong length and for a wrong level type, and the types here have neither. It is here so that
+    /// an archive that does not fit is seen, and nothing panics.
     NotInTable(u64),
 }
 
@@ -93,11 +99,13 @@ impl Error {
             24 => Error::BadTable,
             25 => Error::OutTooSmall,
             26 => Error::BadPath,
+            1003 => Error::BadCell(place),
             other => Error::NotInTable(other),
         }
     }
 
-    /// The number in the table of refusals.
+    /// The number in the table of refusals, or the archive's own.
+    #[must_use]
     pub const fn number(self) -> u64 {
         match self {
             Error::UnexpectedEndOfStream(_) => 1,
@@ -126,11 +134,13 @@ impl Error {
             Error::BadTable => 24,
             Error::OutTooSmall => 25,
             Error::BadPath => 26,
+            Error::BadCell(_) => 1003,
             Error::NotInTable(other) => other,
         }
     }
 
     /// The place: an offset, a count of segments or a cell, as the case says; 0 where it has none.
+    #[must_use]
     pub const fn place(self) -> usize {
         match self {
             Error::UnexpectedEndOfStream(place)
@@ -140,12 +150,14 @@ impl Error {
             | Error::BadNameByte(place)
             | Error::InvalidNameSeg(place)
             | Error::LevelDoesNotExist(place)
-            | Error::Unset(place) => place,
+            | Error::Unset(place)
+            | Error::BadCell(place) => place,
             _ => 0,
         }
     }
 
-    /// The name in the table of refusals.
+    /// The name in the table of refusals; `BadCell` and `NotInTable` for what is not there.
+    #[must_use]
     pub const fn name(self) -> &'static str {
         match self {
             Error::UnexpectedEndOfStream(_) => "UnexpectedEndOfStream",
@@ -174,6 +186,7 @@ impl Error {
             Error::BadTable => "BadTable",
             Error::OutTooSmall => "OutTooSmall",
             Error::BadPath => "BadPath",
+            Error::BadCell(_) => "BadCell",
             Error::NotInTable(_) => "NotInTable",
         }
     }
@@ -185,3 +198,9 @@ impl fmt::Display for Error {
         write!(f, "refused {} at {} {}", self.number(), self.place(), self.name())
     }
 }
+
+// From 1.81 on both are one trait.
+#[cfg(klem_core_error)]
+impl core::error::Error for Error {}
+#[cfg(all(feature = "std", not(klem_core_error)))]
+impl std::error::Error for Error {}

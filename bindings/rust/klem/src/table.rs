@@ -1,6 +1,7 @@
 use crate::path::given;
-use crate::raw::{self, Answer, PATH, RESULT, TABLE};
+use crate::raw::{self, size, PATH, RESULT, TABLE};
 use crate::{Error, Path};
+use core::fmt;
 
 /// What a level is.
 #[derive(Clone, Copy, PartialEq, Eq, Hash, Debug)]
@@ -43,6 +44,15 @@ impl TryFrom<u64> for LevelType {
 #[derive(Clone, Copy, PartialEq, Eq, PartialOrd, Ord, Hash, Debug)]
 pub struct Handle(pub u32);
 
+impl Handle {
+    // The archive's handles are numbers of 32 bits, and come back in a word.
+    #[allow(clippy::cast_possible_truncation)]
+    #[inline]
+    const fn of(word: u64) -> Handle {
+        Handle(word as u32)
+    }
+}
+
 /// What a search found.
 #[derive(Clone, Copy, PartialEq, Eq, Debug)]
 pub struct Found {
@@ -73,8 +83,10 @@ pub struct FoundLevel {
 /// Every call tests the whole memory first, and refuses with 24 what is not well-formed (docs/TABLE.md). A refused call leaves the
 /// memory as it was.
 ///
+/// A table that owns its words is 9,224 bytes, so that it is cloned where it is asked for, and never copied unseen.
+///
 /// ```
-/// use klem::{Handle, LevelType, Path, Table};
+/// use klem::{LevelType, Table};
 ///
 /// let mut page = vec![0u64; Table::WORDS];
 /// let mut table = Table::fresh_in(&mut page[..])?;
@@ -85,7 +97,8 @@ pub struct FoundLevel {
 /// assert_eq!(table.get(handle)?, 7);
 /// # Ok::<(), klem::Error>(())
 /// ```
-#[derive(Clone, Copy, Debug, PartialEq, Eq)]
+// Not Copy: 9 KB should not be copied unseen.
+#[derive(Clone, PartialEq, Eq)]
 pub struct Table<M = [u64; TABLE]>(M);
 
 // A fresh table: the root alone, whose word has rank 1 and nothing else.
@@ -101,6 +114,8 @@ impl Table {
 
     /// A fresh table that owns its words: the root, and nothing else. It is a constant, so that a kernel can have it as a `static`
     /// and need not have 9 KB of stack for it.
+    #[inline]
+    #[must_use]
     pub const fn new() -> Table {
         Table(FRESH)
     }
@@ -116,12 +131,15 @@ impl Default for Table {
 
 impl<M> Table<M> {
     /// Takes memory as it is. Nothing is tested here: every call tests it.
+    #[inline]
+    #[must_use]
     pub const fn over(memory: M) -> Table<M> {
         Table(memory)
     }
 
     /// The memory, as it was lent.
     #[inline]
+    #[must_use]
     pub fn into_memory(self) -> M {
         self.0
     }
@@ -130,88 +148,118 @@ impl<M> Table<M> {
 impl<M: AsRef<[u64]>> Table<M> {
     /// The words.
     #[inline]
+    #[must_use]
     pub fn words(&self) -> &[u64] {
         self.0.as_ref()
     }
 
     /// Whether the memory holds a table.
     #[inline]
+    #[must_use]
     pub fn is_well_formed(&self) -> bool {
         let t = self.words();
-        // SAFETY: the pointer comes with the length of what it points to.
+        // SAFETY: the pointer comes with the length of what it points to, and that is only read.
         unsafe { raw::klem_well_formed(t.as_ptr(), t.len()) }
     }
 
-    /// The object of a handle; 21.
+    /// The object of a handle.
+    ///
+    /// # Errors
+    ///
+    /// 24 [`Error::BadTable`], 21 [`Error::NoSuchHandle`].
     #[inline]
     pub fn get(&self, handle: Handle) -> Result<u64, Error> {
         let t = self.words();
-        let mut a = Answer::new();
-        // SAFETY: both pointers come with the lengths of what they point to, and the result is this call's own.
-        let n = unsafe { raw::klem_get(t.as_ptr(), t.len(), handle.0, a.ptr(), RESULT) };
-        let [value, _, _] = a.read(n)?;
+        // SAFETY: one call, with the result's words as they are given here; the words come with their length, and are only read.
+        let [value, _, _] = unsafe { raw::ask(|a| raw::klem_get(t.as_ptr(), t.len(), handle.0, a, RESULT)) }?;
         Ok(value)
     }
 
-    /// The handle that an absolute path is bound to, exactly: 11, 10, 13, 15, 16.
+    /// The handle that an absolute path is bound to, exactly.
+    ///
+    /// # Errors
+    ///
+    /// 24 [`Error::BadTable`], 11 [`Error::NotAbsolute`], 10 [`Error::InvalidNormalizedName`], 13 [`Error::RootNotAllowed`],
+    /// 15 [`Error::LevelDoesNotExist`], 16 [`Error::ValueDoesNotExist`].
     #[inline]
     pub fn get_handle(&self, path: &Path) -> Result<Handle, Error> {
         let t = self.words();
-        let mut a = Answer::new();
-        // SAFETY: as above.
-        let n = unsafe { raw::klem_get_handle(t.as_ptr(), t.len(), path.ptr(), PATH, a.ptr(), RESULT) };
-        let [handle, _, _] = a.read(n)?;
-        Ok(Handle(handle as u32))
+        // SAFETY: as above, and the path too.
+        let [handle, _, _] = unsafe { raw::ask(|a| raw::klem_get_handle(t.as_ptr(), t.len(), path.ptr(), PATH, a, RESULT)) }?;
+        Ok(Handle::of(handle))
     }
 
-    /// The object that an absolute path is bound to, exactly: as [`get_handle`](Table::get_handle), then its object.
+    /// The object that an absolute path is bound to, exactly.
+    ///
+    /// # Errors
+    ///
+    /// As [`get_handle`](Table::get_handle).
     #[inline]
     pub fn get_by_path(&self, path: &Path) -> Result<u64, Error> {
         let t = self.words();
-        let mut a = Answer::new();
         // SAFETY: as above.
-        let n = unsafe { raw::klem_get_by_path(t.as_ptr(), t.len(), path.ptr(), PATH, a.ptr(), RESULT) };
-        let [value, _, _] = a.read(n)?;
+        let [value, _, _] = unsafe { raw::ask(|a| raw::klem_get_by_path(t.as_ptr(), t.len(), path.ptr(), PATH, a, RESULT)) }?;
         Ok(value)
     }
 
     /// Searches for a value. A bare segment is looked for in the scope, then in each scope around it, up to `\`; any other path is
     /// resolved against the scope and looked up there only.
+    ///
+    /// # Errors
+    ///
+    /// 24 [`Error::BadTable`], 11 [`Error::NotAbsolute`], 10 [`Error::InvalidNormalizedName`], 9 [`Error::TooManyComponents`],
+    /// 13 [`Error::RootNotAllowed`], 15 [`Error::LevelDoesNotExist`], 16 [`Error::ValueDoesNotExist`].
     #[inline]
     pub fn search(&self, path: &Path, scope: &Path) -> Result<Found, Error> {
         let t = self.words();
-        given(
-            Found { path: Path::EMPTY, handle: Handle(0), asked: 0 },
-            |found| &mut found.path,
-            |out, a| {
-                // SAFETY: every pointer comes with the length of what it points to; `out` and the result are this call's own.
-                unsafe { raw::klem_search(t.as_ptr(), t.len(), path.ptr(), PATH, scope.ptr(), PATH, out, PATH, a, RESULT) }
-            },
-            |found, [handle, asked, _]| {
-                found.handle = Handle(handle as u32);
-                found.asked = asked as usize;
-            },
-        )
+        // SAFETY: one call, with `out` and the result's words as they are given here; the words and the paths come with their lengths,
+        // and are only read.
+        unsafe {
+            given(
+                Found { path: Path::EMPTY, handle: Handle(0), asked: 0 },
+                |found| &mut found.path,
+                |out, a| raw::klem_search(t.as_ptr(), t.len(), path.ptr(), PATH, scope.ptr(), PATH, out, PATH, a, RESULT),
+                |found, [handle, asked, _]| {
+                    found.handle = Handle::of(handle);
+                    found.asked = size(asked);
+                },
+            )
+        }
     }
 
     /// Searches for a level in the same way; a path that is not one bare segment is given back as it is, with no scope asked.
+    ///
+    /// # Errors
+    ///
+    /// 24 [`Error::BadTable`], 11 [`Error::NotAbsolute`], 10 [`Error::InvalidNormalizedName`], 15 [`Error::LevelDoesNotExist`].
     #[inline]
     pub fn search_for_level(&self, path: &Path, scope: &Path) -> Result<FoundLevel, Error> {
         let t = self.words();
-        given(
-            FoundLevel { path: Path::EMPTY, asked: 0 },
-            |found| &mut found.path,
-            |out, a| {
-                // SAFETY: as above.
-                unsafe { raw::klem_search_for_level(t.as_ptr(), t.len(), path.ptr(), PATH, scope.ptr(), PATH, out, PATH, a, RESULT) }
-            },
-            |found, [asked, _, _]| found.asked = asked as usize,
-        )
+        // SAFETY: as above.
+        unsafe {
+            given(
+                FoundLevel { path: Path::EMPTY, asked: 0 },
+                |found| &mut found.path,
+                |out, a| raw::klem_search_for_level(t.as_ptr(), t.len(), path.ptr(), PATH, scope.ptr(), PATH, out, PATH, a, RESULT),
+                |found, [asked, _, _]| found.asked = size(asked),
+            )
+        }
+    }
+}
+
+impl<M: AsRef<[u64]>> fmt::Debug for Table<M> {
+    /// The words that are not 0, each by its index.
+    fn fmt(&self, f: &mut fmt::Formatter<'_>) -> fmt::Result {
+        f.debug_map().entries(self.words().iter().enumerate().filter(|(_, word)| **word != 0)).finish()
     }
 }
 
 impl<M: AsMut<[u64]>> Table<M> {
-    /// Makes a fresh table in memory that is lent; 24 where it has not 1,153 words.
+    /// Makes a fresh table in memory that is lent.
+    ///
+    /// # Errors
+    ///
+    /// 24 [`Error::BadTable`], where it has not 1,153 words.
     #[inline]
     pub fn fresh_in(memory: M) -> Result<Table<M>, Error> {
         let mut table = Table(memory);
@@ -221,93 +269,119 @@ impl<M: AsMut<[u64]>> Table<M> {
 
     /// The words, for whoever saves and restores them. Whatever is written here, the next call tests it.
     #[inline]
+    #[must_use]
     pub fn words_mut(&mut self) -> &mut [u64] {
         self.0.as_mut()
     }
 
-    /// Makes the table fresh again: the root, and nothing else. 24 where it has not 1,153 words.
+    /// Makes the table fresh again: the root, and nothing else. What the words hold does not matter.
+    ///
+    /// # Errors
+    ///
+    /// 24 [`Error::BadTable`], where it has not 1,153 words.
     #[inline]
     pub fn reset(&mut self) -> Result<(), Error> {
         let t = self.words_mut();
-        let mut a = Answer::new();
-        // SAFETY: both pointers come with the lengths of what they point to, and both may be written: one is lent as `&mut`, the
-        // other is this call's own.
-        let n = unsafe { raw::klem_new(t.as_mut_ptr(), t.len(), a.ptr(), RESULT) };
-        a.read(n).map(|_| ())
+        // SAFETY: one call, with the result's words as they are given here; the words come with their length, and may be written, since
+        // they are lent as `&mut`.
+        unsafe { raw::ask(|a| raw::klem_table_new(t.as_mut_ptr(), t.len(), a, RESULT)) }.map(|_| ())
     }
 
-    /// Adds a level at an absolute path; `\`, and a level that is there, are left as they are. 11, 10, 15, 18.
+    /// Adds a level at an absolute path; `\`, and a level that is there, are left as they are.
+    ///
+    /// # Errors
+    ///
+    /// 24 [`Error::BadTable`], 11 [`Error::NotAbsolute`], 10 [`Error::InvalidNormalizedName`], 15 [`Error::LevelDoesNotExist`],
+    /// 18 [`Error::LevelsFull`].
     #[inline]
     pub fn add_level(&mut self, path: &Path, typ: LevelType) -> Result<(), Error> {
         let t = self.words_mut();
-        let mut a = Answer::new();
-        // SAFETY: as above; the path is only read.
-        let n = unsafe { raw::klem_add_level(t.as_mut_ptr(), t.len(), path.ptr(), PATH, typ as u64, a.ptr(), RESULT) };
-        a.read(n).map(|_| ())
+        // SAFETY: as above; the path comes with its length, and is only read.
+        unsafe { raw::ask(|a| raw::klem_add_level(t.as_mut_ptr(), t.len(), path.ptr(), PATH, typ as u64, a, RESULT)) }.map(|_| ())
     }
 
-    /// Removes a level with everything below it; objects stay readable by their handles. 11, 10, 14, 15.
+    /// Removes a level with everything below it; objects stay readable by their handles.
+    ///
+    /// # Errors
+    ///
+    /// 24 [`Error::BadTable`], 11 [`Error::NotAbsolute`], 10 [`Error::InvalidNormalizedName`],
+    /// 14 [`Error::TriedToRemoveRootNamespace`], 15 [`Error::LevelDoesNotExist`].
     #[inline]
     pub fn remove_level(&mut self, path: &Path) -> Result<(), Error> {
         let t = self.words_mut();
-        let mut a = Answer::new();
         // SAFETY: as above.
-        let n = unsafe { raw::klem_remove_level(t.as_mut_ptr(), t.len(), path.ptr(), PATH, a.ptr(), RESULT) };
-        a.read(n).map(|_| ())
+        unsafe { raw::ask(|a| raw::klem_remove_level(t.as_mut_ptr(), t.len(), path.ptr(), PATH, a, RESULT)) }.map(|_| ())
     }
 
-    /// Adds a value under an absolute path, and gives its handle. 11, 10, 13, 15, 17, 19, 20.
+    /// Adds a value under an absolute path, and gives its handle.
+    ///
+    /// # Errors
+    ///
+    /// 24 [`Error::BadTable`], 11 [`Error::NotAbsolute`], 10 [`Error::InvalidNormalizedName`], 13 [`Error::RootNotAllowed`],
+    /// 15 [`Error::LevelDoesNotExist`], 17 [`Error::NameCollision`], 19 [`Error::BindingsFull`], 20 [`Error::ObjectsFull`].
     #[inline]
     pub fn add_value(&mut self, path: &Path, value: u64) -> Result<Handle, Error> {
         let t = self.words_mut();
-        let mut a = Answer::new();
         // SAFETY: as above.
-        let n = unsafe { raw::klem_add_value(t.as_mut_ptr(), t.len(), path.ptr(), PATH, value, a.ptr(), RESULT) };
-        let [handle, _, _] = a.read(n)?;
-        Ok(Handle(handle as u32))
+        let [handle, _, _] = unsafe { raw::ask(|a| raw::klem_add_value(t.as_mut_ptr(), t.len(), path.ptr(), PATH, value, a, RESULT)) }?;
+        Ok(Handle::of(handle))
     }
 
     /// Adds a value under a path as seen from a scope, and gives its handle.
+    ///
+    /// # Errors
+    ///
+    /// 24 [`Error::BadTable`], 11 [`Error::NotAbsolute`], 10 [`Error::InvalidNormalizedName`], 9 [`Error::TooManyComponents`],
+    /// 13 [`Error::RootNotAllowed`], 15 [`Error::LevelDoesNotExist`], 17 [`Error::NameCollision`], 19 [`Error::BindingsFull`],
+    /// 20 [`Error::ObjectsFull`].
     #[inline]
     pub fn add_value_at_resolved_path(&mut self, path: &Path, scope: &Path, value: u64) -> Result<Handle, Error> {
         let t = self.words_mut();
-        let mut a = Answer::new();
-        // SAFETY: as above.
-        let n = unsafe { raw::klem_add_value_at_resolved_path(t.as_mut_ptr(), t.len(), path.ptr(), PATH, scope.ptr(), PATH, value, a.ptr(), RESULT) };
-        let [handle, _, _] = a.read(n)?;
-        Ok(Handle(handle as u32))
+        // SAFETY: as above, and the scope as the path.
+        let [handle, _, _] = unsafe {
+            raw::ask(|a| raw::klem_add_value_at_resolved_path(t.as_mut_ptr(), t.len(), path.ptr(), PATH, scope.ptr(), PATH, value, a, RESULT))
+        }?;
+        Ok(Handle::of(handle))
     }
 
     /// Binds a path to what a target is bound to, both as seen from a scope, and gives that handle.
+    ///
+    /// # Errors
+    ///
+    /// 24 [`Error::BadTable`], 11 [`Error::NotAbsolute`], 10 [`Error::InvalidNormalizedName`], 9 [`Error::TooManyComponents`]; then of
+    /// the target 13 [`Error::RootNotAllowed`], 15 [`Error::LevelDoesNotExist`], 16 [`Error::ValueDoesNotExist`]; then of the path
+    /// 13, 15, 17 [`Error::NameCollision`], 19 [`Error::BindingsFull`].
     #[inline]
     pub fn add_alias_at_resolved_path(&mut self, path: &Path, scope: &Path, target: &Path) -> Result<Handle, Error> {
         let t = self.words_mut();
-        let mut a = Answer::new();
-        // SAFETY: as above.
-        let n = unsafe {
-            raw::klem_add_alias_at_resolved_path(t.as_mut_ptr(), t.len(), path.ptr(), PATH, scope.ptr(), PATH, target.ptr(), PATH, a.ptr(), RESULT)
-        };
-        let [handle, _, _] = a.read(n)?;
-        Ok(Handle(handle as u32))
+        let (path, scope, target) = (path.ptr(), scope.ptr(), target.ptr());
+        // SAFETY: as above, and the target too.
+        let [handle, _, _] =
+            unsafe { raw::ask(|a| raw::klem_add_alias_at_resolved_path(t.as_mut_ptr(), t.len(), path, PATH, scope, PATH, target, PATH, a, RESULT)) }?;
+        Ok(Handle::of(handle))
     }
 
-    /// Sets the object of a handle; 21.
+    /// Sets the object of a handle.
+    ///
+    /// # Errors
+    ///
+    /// 24 [`Error::BadTable`], 21 [`Error::NoSuchHandle`].
     #[inline]
     pub fn set(&mut self, handle: Handle, value: u64) -> Result<(), Error> {
         let t = self.words_mut();
-        let mut a = Answer::new();
         // SAFETY: as above.
-        let n = unsafe { raw::klem_set(t.as_mut_ptr(), t.len(), handle.0, value, a.ptr(), RESULT) };
-        a.read(n).map(|_| ())
+        unsafe { raw::ask(|a| raw::klem_set(t.as_mut_ptr(), t.len(), handle.0, value, a, RESULT)) }.map(|_| ())
     }
 
     /// Sets the object that an absolute path is bound to, exactly.
+    ///
+    /// # Errors
+    ///
+    /// As [`get_handle`](Table::get_handle).
     #[inline]
     pub fn set_by_path(&mut self, path: &Path, value: u64) -> Result<(), Error> {
         let t = self.words_mut();
-        let mut a = Answer::new();
         // SAFETY: as above.
-        let n = unsafe { raw::klem_set_by_path(t.as_mut_ptr(), t.len(), path.ptr(), PATH, value, a.ptr(), RESULT) };
-        a.read(n).map(|_| ())
+        unsafe { raw::ask(|a| raw::klem_set_by_path(t.as_mut_ptr(), t.len(), path.ptr(), PATH, value, a, RESULT)) }.map(|_| ())
     }
 }

@@ -104,7 +104,12 @@ fn paths() {
     assert_eq!(Path::from_components(0, &[0; 128]), Ok(Path::EMPTY));
     assert_eq!(Path::from_components(33, &[0; 128]), Err(Error::BadPath));
     assert_eq!(Path::from_components(usize::MAX, &[0; 128]), Err(Error::BadPath));
-    assert_eq!(Path::from_memory(&[0xFF; 129]), Err(Error::BadPath));
+    assert_eq!(Path::from_memory(&[0xFF; Path::BYTES]), Err(Error::BadPath));
+    // the count has two bytes, low first
+    assert_eq!(&p("\\A").as_memory()[..10], b"\x02\x00\\\0\0\0A___");
+    let mut memory = *p("\\A").as_memory();
+    memory[1] = 1;
+    assert_eq!(Path::from_memory(&memory), Err(Error::BadPath));
 
     let kinds = |path: Path| (path.is_absolute(), path.is_normal(), path.search_rules_apply());
     assert_eq!(kinds(p("\\A")), (true, true, false));
@@ -132,7 +137,7 @@ fn the_table() {
     assert_eq!(table.search_for_level(&p("^Z"), &p("A")), Ok(FoundLevel { path: p("^Z"), asked: 0 }));
 
     // a refused edit leaves the memory as it was
-    let before = table;
+    let before = table.clone();
     assert_eq!(table.add_level(&p("\\A.Q.R"), LevelType::Scope), Err(Error::LevelDoesNotExist(2)));
     assert_eq!(table.add_value(&p("\\A.X"), 9), Err(Error::NameCollision));
     assert_eq!(table.remove_level(&p("\\")), Err(Error::TriedToRemoveRootNamespace));
@@ -222,12 +227,13 @@ fn control_blocks() {
     assert_eq!(check(&[vec![0xA4], vec![0x92; 16], vec![0x01]].concat()), Err(Error::TooDeep(17)));
 
     // an unread branch is checked; a block that is refused leaves the frame as it was
-    let mut frame = Frame::new().with(0, 5);
+    let with = |number| Frame::new().with(0, number).unwrap();
+    let mut frame = with(5);
     assert_eq!(run(&[0x75, 0x60, 0xA0, 0x04, 0x00, 0x30, 0xA4, 0x00], &mut frame, 9), ran(Err(Error::BadOpcode(5)), 0));
-    assert_eq!(frame, Frame::new().with(0, 5));
+    assert_eq!(frame, with(5));
     // 23 leaves what the effects before it made
     assert_eq!(run(&[0x75, 0x60, 0x75, 0x61], &mut frame, 9), ran(Err(Error::Unset(1)), 2));
-    assert_eq!(frame, Frame::new().with(0, 6));
+    assert_eq!(frame, with(6));
     assert_eq!(format!("{frame:?}").matches("None").count(), 14);
 }
 
@@ -235,14 +241,36 @@ fn control_blocks() {
 fn frames() {
     let mut frame = Frame::new();
     assert_eq!(frame.get(14), Err(Error::Unset(14)));
-    frame.set(14, 9);
-    frame.set(Frame::ARG0, u64::MAX);
-    frame.set(15, 1);
-    frame.set(usize::MAX, 1);
+    assert_eq!(frame.set(14, 9), Ok(()));
+    assert_eq!(frame.set(Frame::ARG0, u64::MAX), Ok(()));
+    // a cell that is not there is refused, and the frame stays as it was
+    let before = frame;
+    assert_eq!(frame.set(Frame::CELLS, 1), Err(Error::BadCell(15)));
+    assert_eq!(frame.set(usize::MAX, 1), Err(Error::BadCell(usize::MAX)));
+    assert_eq!(frame.with(15, 1), Err(Error::BadCell(15)));
+    assert_eq!(frame, before);
     assert_eq!(frame.get(14), Ok(9));
     assert_eq!(frame.get(8), Ok(u64::MAX));
     assert_eq!(frame.get(15), Err(Error::Unset(15)));
-    assert_eq!(frame, Frame::new().with(8, u64::MAX).with(14, 9));
+    assert_eq!(Frame::new().with(8, u64::MAX).and_then(|f| f.with(14, 9)), Ok(frame));
     // Return Arg0
     assert_eq!(run(&[0xA4, 0x68], &mut frame, 1), ran(Ok(Ended::Returned(u64::MAX)), 1));
+}
+
+#[test]
+fn shown() {
+    assert_eq!(Error::BadNameByte(3).to_string(), "refused 6 at 3 BadNameByte");
+    assert_eq!(Error::BadCell(15).to_string(), "refused 1003 at 15 BadCell");
+    assert_eq!(Error::NotInTable(1001).to_string(), "refused 1001 at 0 NotInTable");
+    // a table shows the words that are not 0
+    assert_eq!(format!("{:x?}", Table::new()), "{0: 200000000000}");
+}
+
+#[cfg(any(klem_core_error, feature = "std"))]
+#[test]
+fn an_error_as_others_have_it() {
+    fn parsed(text: &str) -> Result<Path, Box<dyn std::error::Error>> {
+        Ok(text.parse()?)
+    }
+    assert_eq!(parsed("").map_err(|e| e.to_string()), Err("refused 7 at 0 EmptyNamesAreInvalid".into()));
 }

@@ -1,4 +1,6 @@
 //! Recorded scripts, run through the archive line by line: every answer must be the recorded one.
+// Sizes have 64 bits wherever this runs, and what klem prints of a flag is a number.
+#[allow(clippy::cast_possible_truncation, clippy::cast_lossless)]
 mod shell;
 
 use klem::Table;

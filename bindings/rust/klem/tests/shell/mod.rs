@@ -371,7 +371,7 @@ fn ran(w: &[&[u8]]) -> Said {
         if cell > 14 {
             return Err(wrong());
         }
-        frame.set(cell as usize, value);
+        frame.set(cell as usize, value)?;
     }
     let ran = run(&block, &mut frame, budget);
     let end = match ran.end {

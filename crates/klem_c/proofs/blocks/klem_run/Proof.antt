@@ -17,12 +17,9 @@ frame-in-requires c κs = c .before .before .fit-one .ensures .1 (c .before .if1
 run-requires : tie.Need-run-requires
 run-requires c κs = search needs
 
-began-requires : tie.Need-began-requires
-began-requires c κs = search needs
-
 put-frame-requires : tie.Need-put-frame-requires
 put-frame-requires c κs =
-    let at-if1 = c .before .before .before .before .before .before .before in
+    let at-if1 = c .before .before .before .before .before .before in
     let at-fit-one = at-if1 .before in
     at-fit-one .fit-one .ensures .1 (at-if1 .if1 .taken) .1
 
@@ -31,7 +28,7 @@ end-requires c κs = search needs
 
 tell-requires : tie.Need-tell-requires
 tell-requires c κs =
-    let at-if1 = c .before .before .before .before .before .before .before .before .before .before .before .before in
+    let at-if1 = c .before .before .before .before .before .before .before .before .before .before .before in
     let at-fit-one = at-if1 .before in
     at-fit-one .fit-one .ensures .1 (at-if1 .if1 .taken) .0
 
@@ -47,21 +44,19 @@ returns c =
     let at-end = at-tell .before in
     let at-put-frame = at-end .before .before .before .before in
     let at-if2 = at-put-frame .before .before .before in
-    let at-began = at-if2 .before in
-    let at-run = at-began .before in
+    let at-run = at-if2 .before in
     let at-frame-in = at-run .before in
     let at-if1 = at-frame-in .before .before in
     let at-fit-one = at-if1 .before in
     run-left _ _ _ _ _ (at-run .run .result) (rw (at-frame-in .frame-in .ensures) at (at-run .run .ensures))
-    (sym (at-fit-one .fit-one .ensures .0) ∙ at-if1 .if1 .taken) (at-tell .tell .ensures) (at-end .end .ensures) (at-began .began .ensures)
-    (at-if2 .if2 .taken) (at-put-frame .put-frame .ensures)
+    (sym (at-fit-one .fit-one .ensures .0) ∙ at-if1 .if1 .taken) (at-tell .tell .ensures) (at-end .end .ensures) (at-if2 .if2 .taken) (at-put-frame .put-frame .ensures)
 
 end-requires-2 : tie.Need-end-requires-2
 end-requires-2 c κs = search needs
 
 tell-requires-2 : tie.Need-tell-requires-2
 tell-requires-2 c κs =
-    let at-if1 = c .before .before .before .before .before .before .before in
+    let at-if1 = c .before .before .before .before .before .before in
     let at-fit-one = at-if1 .before in
     at-fit-one .fit-one .ensures .1 (at-if1 .if1 .taken) .0
 
@@ -76,14 +71,12 @@ returns-2 c =
     let at-tell2 = c .before .before in
     let at-end2 = at-tell2 .before in
     let at-if2 = at-end2 .before .before in
-    let at-began = at-if2 .before in
-    let at-run = at-began .before in
+    let at-run = at-if2 .before in
     let at-frame-in = at-run .before in
     let at-if1 = at-frame-in .before .before in
     let at-fit-one = at-if1 .before in
     run-kept _ _ _ _ _ (at-run .run .result) (rw (at-frame-in .frame-in .ensures) at (at-run .run .ensures))
-    (sym (at-fit-one .fit-one .ensures .0) ∙ at-if1 .if1 .taken) (at-tell2 .tell2 .ensures) (at-end2 .end2 .ensures) (at-began .began .ensures)
-    (at-if2 .if2 .left)
+    (sym (at-fit-one .fit-one .ensures .0) ∙ at-if1 .if1 .taken) (at-tell2 .tell2 .ensures) (at-end2 .end2 .ensures) (at-if2 .if2 .left)
 
 returns-3 : tie.Need-returns-3
 returns-3 c = run-unfit _ _ _ _ (sym (c .before .fit-one .ensures .0) ∙ c .if1 .left)
@@ -95,7 +88,6 @@ klem-run-spec =
     fit-one-requires
     frame-in-requires
     run-requires
-    began-requires
     put-frame-requires
     end-requires
     tell-requires

@@ -1,9 +1,5 @@
--- The count is the first byte, and the bytes are a copy of the others. A byte fits a `usize`.
-use mathlib.Core.Path.{_∙_, ap}
-use mathlib.Core.List.{List}
-use Prim.Native.Nat.{ℕ}
-use native.Mathlib.Omega.{arith}
-use lib.ListN.{getD}
+-- The count is the first two bytes, low first, and the bytes are a copy of the others.
+use mathlib.Core.Path.{_∙_}
 use borrow.Author.Needs.{needs}
 use Rattle.klem_c.proofs.Copies.{tail-of}
 use Rattle.klem_c.proofs.slices.path_in.Statement.{statement}
@@ -24,17 +20,20 @@ part-copy-end c = search needs
 copy-requires : tie.Need-copy-requires
 copy-requires c κs = search needs
 
-shared-slice-read-t11 : tie.Need-shared-slice-read-t11
-shared-slice-read-t11 c = search needs
+shared-slice-read-count-of : tie.Need-shared-slice-read-count-of
+shared-slice-read-count-of c = search needs
 
-cast-t7 : tie.Need-cast-t7
-cast-t7 c = omega (arith, c .shared-slice-known2 .given 0)
+shared-slice-read-count-of-2 : tie.Need-shared-slice-read-count-of-2
+shared-slice-read-count-of-2 c = search needs
+
+count-of-requires : tie.Need-count-of-requires
+count-of-requires c κs = search needs
 
 returns : tie.Need-returns
 returns c =
-    let at-copy = c .before .before in
-    let at-args = at-copy .before .before .before .before in
-    ap (λ (r : List ℕ). record { count = getD (at-args .args .src .now) 0 0; bytes = r }) (at-copy .copy .ensures ∙ tail-of 1 (at-args .args .src .now))
+    let at-copy = c .before .before .before .before in
+    let src = at-copy .before .before .before .before .args .src .now in
+    λ i. record { count = c .count-of .ensures i; bytes = (at-copy .copy .ensures ∙ tail-of 2 src) i }
 
 pub path-in-spec : {M : Type 1} → statement M
 path-in-spec =
@@ -45,6 +44,7 @@ path-in-spec =
     part-copy-start
     part-copy-end
     copy-requires
-    shared-slice-read-t11
-    cast-t7
+    shared-slice-read-count-of
+    shared-slice-read-count-of-2
+    count-of-requires
     returns)

@@ -1,7 +1,6 @@
--- The count is stored, which one byte holds, and the bytes are copied behind it (`put-path`).
+-- The count is stored, which two bytes hold, and the bytes are copied behind it (`put-path`).
 use mathlib.Core.Path.{_≡_, _∙_, ap}
-use mathlib.Core.List.{List, _∷_}
-use Prim.Native.Nat.{ℕ}
+use mathlib.Core.List.{_∷_}
 use native.Mathlib.Omega.{arith}
 use lib.ListN.{length, length-drop, length-take, length-set}
 use borrow.Author.Needs.{needs}
@@ -9,11 +8,17 @@ use Rattle.klem_c.proofs.Copies.{put-path}
 use Rattle.klem_c.proofs.slices.put_path.Statement.{statement}
 use Rattle.klem_c.proofs.slices.put_path.Tie as tie
 
-cast-out : tie.Need-cast-out
-cast-out c = search needs
+low-requires : tie.Need-low-requires
+low-requires c κs = search needs
 
 slice-write-out : tie.Need-slice-write-out
 slice-write-out c = search needs
+
+high-requires : tie.Need-high-requires
+high-requires c κs = search needs
+
+slice-write-out-2 : tie.Need-slice-write-out-2
+slice-write-out-2 c = search needs
 
 sub-copy : tie.Need-sub-copy
 sub-copy c = simp length-set (omega arith)
@@ -26,30 +31,37 @@ part-copy-end c = search needs
 
 copy-requires : tie.Need-copy-requires
 copy-requires c κs =
-    let l : length (c .before .before .before .before .before .args .t2 .bytes) ≡ 128 = search needs in
+    let l : length (c .before .before .before .before .before .before .before .args .t2 .bytes) ≡ 128 = search needs in
     simp (length-take, length-drop, length-set) (omega arith)
 
 same-length : tie.Need-same-length
 same-length c =
-    let l : length (c .before .before .before .before .before .before .before .before .args .t2 .bytes) ≡ 128 = search needs in
     let at-copy = c .before .before in
-    let at-args = at-copy .before .before .before .before .before .before in
-    omega
-    (arith, ap length (put-path (at-args .args .out .now) (at-copy .copy .last .0) (at-args .args .t2 .count) (omega arith)), ap length (at-copy .copy .ensures))
+    let at-high = at-copy .before .before .before .before .before in
+    let at-args = at-high .before .before .before in
+    let l : length (c .before .before .before .before .before .before .before .before .before .before .args .t2 .bytes) ≡ 128 = search needs in
+    omega (
+      arith,
+      ap length (put-path (at-args .args .out .now) (at-copy .copy .last .0) (at-high .before .low .result) (at-high .high .result) (omega arith)),
+      ap length (at-copy .copy .ensures),
+    )
 
 returns : tie.Need-returns
 returns c =
     let at-copy = c .before .before in
-    let at-args = at-copy .before .before .before .before .before .before in
-    put-path (at-args .args .out .now) (at-copy .copy .last .0) (at-args .args .t2 .count) (omega arith) ∙ ap
-    (λ (r : List ℕ). at-args .args .t2 .count ∷ r) (at-copy .copy .ensures)
+    let at-high = at-copy .before .before .before .before .before in
+    let at-args = at-high .before .before .before in
+    put-path (at-args .args .out .now) (at-copy .copy .last .0) (at-high .before .low .result) (at-high .high .result) (omega arith)
+    ∙ (λ i. at-high .before .low .ensures i ∷ (at-high .high .ensures i ∷ at-copy .copy .ensures i))
 
 pub put-path-spec : {M : Type 1} → statement M
 put-path-spec =
     tie.close
     (tie.spec
-    cast-out
+    low-requires
     slice-write-out
+    high-requires
+    slice-write-out-2
     sub-copy
     part-copy-start
     part-copy-end

@@ -1,4 +1,4 @@
--- A type over 5 is told as 28, with the table as it was; with any other the layer below leaves the table and says what is told of it.
+-- A type over 5 is told as 1002, with the table as it was; with any other the layer below leaves the table and says what is told of it.
 -- Where the slices do not fit nothing is written.
 use Rattle.table.specs.Memory.{left}
 use mathlib.Core.Path.{refl, sym, _∙_}
@@ -13,8 +13,8 @@ use Rattle.klem_c.proofs.tables.klem_add_level.Tie as tie
 fit-one-requires : tie.Need-fit-one-requires
 fit-one-requires c κs = search needs
 
-bad-type-requires : tie.Need-bad-type-requires
-bad-type-requires c κs = search needs
+numbered-requires : tie.Need-numbered-requires
+numbered-requires c κs = search needs
 
 tell-requires : tie.Need-tell-requires
 tell-requires c κs =
@@ -27,12 +27,12 @@ returns : tie.Need-returns
 unfolding klemAddLevel
 returns c =
     let at-tell = c .before .before in
-    let at-bad-type = at-tell .before in
-    let at-if2 = at-bad-type .before .before in
+    let at-numbered = at-tell .before in
+    let at-if2 = at-numbered .before .before in
     let at-if1 = at-if2 .before in
     let at-fit-one = at-if1 .before in
     rw (lt-leb _ _ (at-if2 .if2 .taken))
-    (tells _ _ _ _ (sym (at-fit-one .fit-one .ensures .0) ∙ at-if1 .if1 .taken) (at-tell .tell .ensures) (at-bad-type .bad-type .ensures) refl)
+    (tells _ _ _ _ (sym (at-fit-one .fit-one .ensures .0) ∙ at-if1 .if1 .taken) (at-tell .tell .ensures) (at-numbered .numbered .ensures) refl)
 
 path-in-requires : tie.Need-path-in-requires
 path-in-requires c κs = c .before .before .before .fit-one .ensures .1 (c .before .before .if1 .taken) .1
@@ -81,7 +81,7 @@ klem-add-level-spec =
     tie.close
     (tie.spec
     fit-one-requires
-    bad-type-requires
+    numbered-requires
     tell-requires
     same-length
     returns

@@ -5,10 +5,10 @@ use mathlib.Core.Path.{sym, _∙_}
 use borrow.Author.Tests.{eqb-true}
 use borrow.Author.Needs.{needs}
 use Rattle.klem_c.specs.Result.{nothing}
-use Rattle.klem_c.specs.Tables.{klemNew}
+use Rattle.klem_c.specs.Tables.{klemTableNew}
 use Rattle.klem_c.proofs.Results.{edited}
-use Rattle.klem_c.proofs.tables.klem_new.Statement.{statement}
-use Rattle.klem_c.proofs.tables.klem_new.Tie as tie
+use Rattle.klem_c.proofs.tables.klem_table_new.Statement.{statement}
+use Rattle.klem_c.proofs.tables.klem_table_new.Tie as tie
 
 fit-requires : tie.Need-fit-requires
 fit-requires c κs = search needs
@@ -32,7 +32,7 @@ same-length-2 : tie.Need-same-length-2
 same-length-2 c = search needs
 
 returns : tie.Need-returns
-unfolding klemNew
+unfolding klemTableNew
 returns c =
     let at-tell = c .before .before in
     let at-edit = at-tell .before in
@@ -42,11 +42,11 @@ returns c =
     edited _ _ _ _ (sym (at-fit .fit .ensures) ∙ at-if1 .if1 .taken) (at-tell .tell .ensures) nothing (at-edit .edit .ensures) (at-new .new .ensures)
 
 returns-2 : tie.Need-returns-2
-unfolding klemNew
+unfolding klemTableNew
 returns-2 c = rw (sym (c .before .fit .ensures) ∙ c .if1 .left)
 
-pub klem-new-spec : {M : Type 1} → statement M
-klem-new-spec =
+pub klem-table-new-spec : {M : Type 1} → statement M
+klem-table-new-spec =
     tie.close
     (tie.spec
     fit-requires

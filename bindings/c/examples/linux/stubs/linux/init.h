@@ -1,0 +1,3 @@
+/* see types.h */
+#define __init
+#define __exit
