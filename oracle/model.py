@@ -1,6 +1,7 @@
 """Two models in Python: what document 01 says that a call answers, and what the Rust answers where the two are known to differ.
 
-`Paper` is a reading of 01 made apart from the port: it knows neither its definitions nor its code. `Rust` follows the published source where
+`Paper` is 01 written once more, from its sentences and in another language; it uses nothing of the port, but was written with the port's definitions
+known. `Rust` follows the published source where
 docs/DIFFERENCES.md has a difference, panics included. oracle/compare.py asks both where the port and the Rust disagree: a difference is known only if
 each side's answer is the one that its model computes, and the Rust's model says which difference it met on the way.
 """
