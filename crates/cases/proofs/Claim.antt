@@ -1,7 +1,6 @@
 -- One claim over the whole list: what the definitions say is what document 01 says. Both sides compute, once the definitions are open; the search's
 -- mark goes by what written words mean (Search.antt), since a table of 1,153 words is too long to be computed with.
-use mathlib.Core.Path.{_≡_, refl}
-use mathlib.Core.List.{List}
+use mathlib.Core.Path.{_≡_}
 use Rattle.pkg_length.specs.Little.{little}
 use Rattle.pkg_length.specs.Pkg.{spelt, rawLength, fromRaw, pkgLength}
 use Rattle.name_object.specs.Component.{leadOk, digitOk, charOk, segOk, spell}

@@ -1,7 +1,7 @@
 -- The cases at document 01's twelve P marks, in its order, as one list: what the definitions that the public contracts cite say, beside what the paper says.
 -- An answer is shown as its numbers, so that all twelve are of one kind.
 use Prim.Native.Nat.{ℕ}
-use mathlib.Core.List.{List, [], _∷_, _++_}
+use mathlib.Core.List.{List, [], _∷_}
 use lib.ListN.{replicate}
 use Rattle.pkg_length.specs.Refusal.{Answer, gives, refuses, andThen}
 use Rattle.pkg_length.specs.Pkg.{Pkg, pkgLength}

@@ -1,12 +1,12 @@
 -- A loop that copies: what is behind it is the source's, and what is before it is as it was.
 use mathlib.Core.Path.{_≡_, refl, sym, _∙_, ap}
-use mathlib.Core.Bool.{Bool, true, false, not}
+use mathlib.Core.Bool.{Bool, true, false}
 use mathlib.Core.List.{List, [], _∷_, _++_, map, append-nil}
 use Prim.Native.Nat.{ℕ, suc, _+_, _-_, _<_, _≤_}
 use native.Mathlib.Nat.{le-of-lt}
 use native.Mathlib.Numerals.{add-one}
 use native.Mathlib.Omega.{arith}
-use lib.ListN.{length, getD, set, take, drop, replicate, length-set, length-take, length-drop, length-append, length-map, List·getD-map, drop-of-length-le}
+use lib.ListN.{length, getD, set, take, drop, replicate, length-set, length-drop, length-append, length-map, List·getD-map, drop-of-length-le}
 use borrow.Rule.Slice.PartMut.{putMid, post-is}
 use mir.Val.{boolByte}
 use Rattle.statement.specs.Grammar.{cells}

@@ -11,23 +11,23 @@ use Rattle.namespace.specs.declared.LevelSaid.{LevelSaid}
 use Rattle.klem_c.specs.Result.{one}
 use Rattle.klem_c.specs.Paths.{texts}
 use mathlib.Core.Path.{_≡_, refl, sym, _∙_, ap}
-use mathlib.Core.Bool.{Bool, true, false, _&&_}
+use mathlib.Core.Bool.{Bool, true, false, _&&_, cond}
 use mathlib.Core.List.{List, [], _∷_, _++_}
-use Prim.Native.Nat.{ℕ, _-_, _*_, _<_, _≤_}
+use Prim.Native.Nat.{ℕ, _-_, _*_, _<_}
 use native.Mathlib.Omega.{arith}
 use lib.Dec.{eqb}
 use lib.ListN.{length, getD, set, length-append, length-replicate, drop-of-length-le}
 use lib.Seq.{sets-eq}
-use borrow.Author.Tests.{eqb-true, eq-eqb, ne-eqb}
-use Rattle.pkg_length.specs.Refusal.{Answer, gives, refuses, andThen, pick, paper, refused}
+use borrow.Author.Tests.{eqb-true, ne-eqb}
+use Rattle.pkg_length.specs.Refusal.{Answer, gives, refuses, paper}
 use Rattle.pkg_length.specs.declared.AmlError.{AmlError}
 use Rattle.name_object.specs.Component.{Component, root, componentLimit, spell}
 use Rattle.name_object.specs.Memory.{zeros, nameOf, Named, Told, told}
 use Rattle.name_object.specs.declared.AmlName.{AmlName}
 use Rattle.name_object.proofs.Memory.{length-spell}
 use Rattle.table.specs.Memory.{Left}
-use Rattle.klem_c.specs.Result.{badSlice, resultWords, resultOf, valued, After, leaves, wordsOf}
-use Rattle.klem_c.specs.Paths.{pathSize, pathBytes, outOf, names}
+use Rattle.klem_c.specs.Result.{resultWords, resultOf, valued, leaves, wordsOf}
+use Rattle.klem_c.specs.Paths.{pathSize, pathBytes, names}
 use Rattle.klem_c.specs.Tables.{lefts}
 use Rattle.klem_c.specs.declared.reply.Reply.{Reply}
 
@@ -162,7 +162,7 @@ count-small {A} name (gives v) e h = let m : name ≡ nameOf componentLimit (v .
 count-small {A} name (refuses n p) e h = let m : name ≡ nameOf componentLimit [] = ap (λ (x : Told A). x .memory) e in rw m (name-small [] (rw m at h))
 
 module _ {A : Type 0} (f : A → List ℕ) (fit : Bool) (result out : List ℕ) {r : ℕ} {result′ out′ : List ℕ} (t : Reply) (name : AmlName)
-    (fits : fit ≡ true) (said : (r ≡ t .number) × (result′ ≡ wordsOf t) × (out′ ≡ pick (eqb (t .number) 0) (pathBytes name) out)) where
+    (fits : fit ≡ true) (said : (r ≡ t .number) × (result′ ≡ wordsOf t) × (out′ ≡ cond (eqb (t .number) 0) (pathBytes name) out)) where
   -- a path that is given is in `out`; a refusal leaves it
   pub named : (s : Answer A) (a : Answer (Named A)) → Numbered s → wordsOf t ≡ resultOf (valued f s) → record { memory = name; said = s } ≡ told componentLimit a →
       record { number = r; result = result′; lent = out′ } ≡ names fit result out f a
@@ -171,10 +171,10 @@ module _ {A : Type 0} (f : A → List ℕ) (fit : Bool) (result out : List ℕ) 
       let m : name ≡ nameOf componentLimit (v .path) = ap (λ (x : Told A). x .memory) e in
       let w′ : wordsOf t ≡ resultOf (gives (f (v .value))) = w ∙ ap (λ (x : Answer A). resultOf (valued f x)) q in
       let z : t .number ≡ 0 = ap (λ (ws : List ℕ). getD ws 0 0) w′ in
-      tells fit result out t fits (said .0, said .1) w′ (said .2 ∙ ap (λ (n : ℕ). pick (eqb n 0) (pathBytes name) out) z ∙ ap pathBytes m)
+      tells fit result out t fits (said .0, said .1) w′ (said .2 ∙ ap (λ (n : ℕ). cond (eqb n 0) (pathBytes name) out) z ∙ ap pathBytes m)
   named s (refuses n p) h w e =
       let q : s ≡ refuses n p = ap (λ (x : Told A). x .said) e in
       let w′ : wordsOf t ≡ resultOf (refuses n p) = w ∙ ap (λ (x : Answer A). resultOf (valued f x)) q in
       let z : t .number ≡ n = ap (λ (ws : List ℕ). getD ws 0 0) w′ in
       let h′ : n ≡ 0 → ⊥ = rw q at h in
-      tells fit result out t fits (said .0, said .1) w′ (said .2 ∙ ap (λ (k : ℕ). pick (eqb k 0) (pathBytes name) out) z ∙ ap (λ (b : Bool). pick b (pathBytes name) out) (ne-eqb n 0 h′))
+      tells fit result out t fits (said .0, said .1) w′ (said .2 ∙ ap (λ (k : ℕ). cond (eqb k 0) (pathBytes name) out) z ∙ ap (λ (b : Bool). cond b (pathBytes name) out) (ne-eqb n 0 h′))

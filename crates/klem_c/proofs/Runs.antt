@@ -1,17 +1,15 @@
 -- What the check and the run of a block leave, from what the layer below promises of them.
 use mathlib.Core.Path.{_≡_, refl, sym, _∙_, ap}
 use mathlib.Core.Bool.{Bool, true, false}
-use mathlib.Core.List.{List, [], _∷_}
+use mathlib.Core.List.{List, []}
 use Prim.Native.Nat.{ℕ}
 use native.Mathlib.Omega.{arith}
 use lib.ListN.{getD}
-use Rattle.pkg_length.specs.Refusal.{Answer, gives, refuses, refused}
+use Rattle.pkg_length.specs.Refusal.{Answer}
 use Rattle.statement.specs.declared.CheckAnswer.{CheckAnswer}
 use Rattle.statement.specs.declared.RunAnswer.{RunAnswer}
-use Rattle.statement.specs.Reading.{Stmts}
-use Rattle.statement.specs.Refusal.{readBlock}
-use Rattle.statement.specs.Meaning.{Ended, Outcome}
-use Rattle.statement.specs.Promise.{Derives, Verdict, Checked, checkSaid, endSaid, HasRun}
+use Rattle.statement.specs.Meaning.{Outcome}
+use Rattle.statement.specs.Promise.{Verdict, Checked, checkSaid, endSaid, HasRun}
 use Rattle.klem_c.specs.Result.{badSlice, resultWords, resultOf, valued, nothing, sized, wordsOf}
 use Rattle.klem_c.specs.Frames.{fitsFrame, frameAt, frameWords}
 use Rattle.klem_c.specs.Blocks.{KlemCheck, KlemRun, runWords}

@@ -1,10 +1,10 @@
 -- A frame as KLEM_FRAME words: 15 flags, 0 where the cell is unset, then 15 numbers; and the calls on it.
 use Prim.Native.Nat.{ℕ}
-use mathlib.Core.Bool.{Bool, _&&_, not}
+use mathlib.Core.Bool.{Bool, _&&_, not, cond}
 use mathlib.Core.List.{List, [], _++_, map}
 use lib.Dec.{eqb, ltb}
 use lib.ListN.{take, drop}
-use Rattle.pkg_length.specs.Refusal.{gives, refuses, pick}
+use Rattle.pkg_length.specs.Refusal.{gives, refuses}
 use Rattle.statement.specs.Grammar.{cells}
 use Rattle.statement.specs.Frames.{fresh, held, wrote}
 use Rattle.statement.specs.declared.frame.Frame.{Frame}
@@ -43,5 +43,5 @@ klemFrameGet frame cell result = answers (fitsFrame result frame) result (valued
 unfoldable pub klemFrameSet : List ℕ → ℕ → ℕ → List ℕ → After
 klemFrameSet frame cell number result =
     leaves (fitsFrame result frame) result frame
-    (resultOf (pick (ltb cell cells) (gives []) (refuses badCell cell)))
-    (pick (ltb cell cells) (frameWords (wrote (frameAt frame) cell number)) frame)
+    (resultOf (cond (ltb cell cells) (gives []) (refuses badCell cell)))
+    (cond (ltb cell cells) (frameWords (wrote (frameAt frame) cell number)) frame)

@@ -1,10 +1,10 @@
 -- What a call leaves, as include/klem.h has it: the number that it returns, the words of its result, and what else it was lent to write.
 use Prim.Native.Nat.{ℕ, _-_}
-use mathlib.Core.Bool.{Bool}
+use mathlib.Core.Bool.{Bool, cond}
 use mathlib.Core.List.{List, [], _∷_, _++_}
 use lib.Dec.{eqb}
 use lib.ListN.{length, getD, replicate}
-use Rattle.pkg_length.specs.Refusal.{Answer, gives, refuses, andThen, pick}
+use Rattle.pkg_length.specs.Refusal.{Answer, gives, refuses, andThen}
 use Rattle.klem_c.specs.declared.reply.Reply.{Reply}
 
 -- The library's own numbers start at 1001, past any that the paper gives.
@@ -46,7 +46,7 @@ one n = n ∷ []
 
 -- 1 where it is so, else 0
 abbrev pub flag : Bool → ℕ
-flag b = pick b 1 0
+flag b = cond b 1 0
 
 -- a slice has the length that is fixed for it
 abbrev pub sized : ℕ → List ℕ → Bool
@@ -61,7 +61,7 @@ pub record After : Type 0 where
 -- where the slices fit, the result and what else was lent are written, and the result's first word is returned; else KLEM_BAD_SLICE, and all stays
 abbrev pub leaves : Bool → List ℕ → List ℕ → List ℕ → List ℕ → After
 leaves fit result lent words new =
-    pick fit
+    cond fit
     (record { number = getD words 0 0; result = words; lent = new })
     (record { number = badSlice; result = result; lent = lent })
 

@@ -1,9 +1,9 @@
 -- The calls on a table. The length of a table is no fixed slice's: the layer below refuses it by 24.
 use Prim.Native.Nat.{ℕ}
-use mathlib.Core.Bool.{Bool}
+use mathlib.Core.Bool.{Bool, cond}
 use mathlib.Core.List.{List, [], _∷_}
 use lib.Dec.{leb, eqb}
-use Rattle.pkg_length.specs.Refusal.{Answer, gives, refuses, pick}
+use Rattle.pkg_length.specs.Refusal.{Answer, refuses}
 use Rattle.table.specs.Limits.{limits}
 use Rattle.table.specs.Memory.{Edited, Left, left}
 use Rattle.table.specs.Search.{Hit}
@@ -16,16 +16,16 @@ use Rattle.klem_c.specs.Paths.{pathAt, fitsPath, fitsTwo, fitsThree, nam
 
 abbrev pub levelType : ℕ → LevelType
 levelType n =
-    pick (eqb n 0) Scope
-    (pick (eqb n 1) Device
-    (pick (eqb n 2) Processor
-    (pick (eqb n 3) PowerResource
-    (pick (eqb n 4) ThermalZone
+    cond (eqb n 0) Scope
+    (cond (eqb n 1) Device
+    (cond (eqb n 2) Processor
+    (cond (eqb n 3) PowerResource
+    (cond (eqb n 4) ThermalZone
     MethodLocals))))
 
 -- a call with a level's type
 abbrev pub typed : {A : Type 0} → ℕ → (LevelType → Answer A) → Answer A
-typed n call = pick (leb n 5) (call (levelType n)) (refuses badType 0)
+typed n call = cond (leb n 5) (call (levelType n)) (refuses badType 0)
 
 -- what is left of the table and what is said of it
 abbrev pub lefts : {A : Type 0} → Bool → List ℕ → List ℕ → (A → List ℕ) → Left A → After

@@ -1,11 +1,11 @@
 // What a result says, and its eight words.
 ghost use mathlib.Core.Path.{_≡_};
-ghost use mathlib.Core.Bool.{_&&_};
+ghost use mathlib.Core.Bool.{_&&_, cond};
 ghost use mathlib.Core.List.{[], _∷_};
 ghost use Prim.Native.Nat.{_<_};
 ghost use lib.Dec.{eqb};
 ghost use lib.ListN.{length};
-ghost use Rattle.pkg_length.specs.Refusal.{pick, gives, refuses, refused};
+ghost use Rattle.pkg_length.specs.Refusal.{gives, refuses, refused};
 ghost use Rattle.pkg_length.specs.Pkg.{rawSaid, lengthSaid, pkgSaid};
 ghost use Rattle.name_object.specs.Name.{nameSaid};
 ghost use Rattle.path.specs.Normal.{pathSaid, flagSaid};
@@ -66,7 +66,7 @@ pub(crate) fn tell(result: &mut [u64], reply: Reply) -> u64
 // The same, and the path to `out` where there is one.
 pub(crate) fn tell_path(out: &mut [u8], result: &mut [u64], name: AmlName, reply: Reply) -> u64
     requires { ⌜ (length (now out) ≡ pathSize) × (length (now result) ≡ resultWords) × (name .count < 65536) ⌝ }
-    ensures { λ r. ⌜ (r ≡ reply .number) × (now (result .exit) ≡ wordsOf reply) × (now (out .exit) ≡ pick (eqb (reply .number) 0) (pathBytes name) (now (out .entry))) ⌝ }
+    ensures { λ r. ⌜ (r ≡ reply .number) × (now (result .exit) ≡ wordsOf reply) × (now (out .exit) ≡ cond (eqb (reply .number) 0) (pathBytes name) (now (out .entry))) ⌝ }
 {
     if reply.number == 0 {
         slices::put_path(out, name);

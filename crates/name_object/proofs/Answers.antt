@@ -1,14 +1,14 @@
 -- What a name answers once its segments were read: the definition of a NameString, by where its segments stand.
 use mathlib.Core.Path.{_≡_, refl, sym, _∙_, ap}
-use mathlib.Core.Bool.{Bool, true, false}
+use mathlib.Core.Bool.{Bool, true, false, cond}
 use mathlib.Core.List.{List, [], _∷_, _++_}
-use Prim.Native.Nat.{ℕ, zero, suc, _+_, _-_, _*_, _≤_, _<_}
+use Prim.Native.Nat.{ℕ, zero, suc, _+_, _*_, _≤_, _<_}
 use native.Mathlib.Omega.{arith}
 use lib.Dec.{eqb}
 use lib.ListN.{length, getD, drop}
 use lib.Seq.{getD-drop, drop-drop}
 use borrow.Author.Tests.{eq-eqb, ne-eqb, le-leb, lt-leb}
-use Rattle.pkg_length.specs.Refusal.{Answer, gives, refuses, andThen, pick}
+use Rattle.pkg_length.specs.Refusal.{Answer, gives, refuses, andThen}
 use Rattle.pkg_length.proofs.Answers.{refuses-not, gives-same, then-gives, refuses-as}
 use Rattle.name_object.specs.Component.{Component, componentLimit, seg}
 use Rattle.name_object.specs.Memory.{Named, Told, told, nameOf}
@@ -97,8 +97,8 @@ run-starts xs p r h =
     at f n e l m = let s : f ≡ r .from = ap (λ (v : Run). v .from) (gives-same e) in (omega arith, omega arith)
 
     go : p < length xs → (s t u : Bool) →
-        pick s (gives (run (p + 1) 0)) (pick t (gives (run (p + 1) 2))
-        (pick u (andThen (byteAt xs (p + 1)) (λ n. gives (run (p + 2) n))) (gives (run p 1)))) ≡ gives r → (p ≤ r .from) × (r .from ≤ length xs)
+        cond s (gives (run (p + 1) 0)) (cond t (gives (run (p + 1) 2))
+        (cond u (andThen (byteAt xs (p + 1)) (λ n. gives (run (p + 2) n))) (gives (run p 1)))) ≡ gives r → (p ≤ r .from) × (r .from ≤ length xs)
     go l true t u e = at (p + 1) 0 e (omega arith) (omega arith)
     go l false true u e = at (p + 1) 2 e (omega arith) (omega arith)
     go l false false true e =

@@ -1,11 +1,11 @@
 -- A name is built component by component: what the path holds after each push.
-use mathlib.Core.Path.{_≡_, refl, sym, _∙_, ap}
+use mathlib.Core.Path.{_≡_, refl, _∙_, ap}
 use mathlib.Core.List.{List, [], _∷_, _++_}
-use Prim.Native.Nat.{ℕ, zero, suc, _+_, _-_, _*_, _≤_, _<_}
+use Prim.Native.Nat.{ℕ, zero, suc, _+_, _*_, _≤_, _<_}
 use native.Mathlib.Omega.{arith}
 use lib.ListN.{length, getD, take, drop, length-append, List·getD-append}
 use lib.Seq.{length-take-le, getD-drop, drop-drop, getD-append-add, take-all}
-use Rattle.name_object.specs.Component.{Component, componentLimit, root, up, seg, spellOne}
+use Rattle.name_object.specs.Component.{Component, componentLimit, up, spellOne}
 use Rattle.name_object.specs.Memory.{nameOf, pushed}
 use Rattle.name_object.specs.Name.{prefixOf}
 use Rattle.name_object.specs.Inside.{cut}

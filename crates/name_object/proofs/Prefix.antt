@@ -1,15 +1,14 @@
 -- What stands before a NamePath: a loop over the `^`s counts them, and each byte of a prefix spells one component.
-use mathlib.Core.Path.{_≡_, refl, sym, _∙_, ap}
-use mathlib.Core.Bool.{Bool, true, false}
-use mathlib.Core.List.{List, [], _∷_, _++_}
-use Prim.Native.Nat.{ℕ, zero, suc, _+_, _-_, _*_, _≤_, _<_}
+use mathlib.Core.Path.{_≡_, refl, sym, ap}
+use mathlib.Core.Bool.{Bool, true, false, cond}
+use mathlib.Core.List.{List, [], _∷_}
+use Prim.Native.Nat.{ℕ, zero, suc, _+_, _≤_, _<_}
 use native.Mathlib.Omega.{arith}
 use lib.Dec.{eqb}
 use lib.ListN.{length, getD, drop, drop-of-length-le}
 use lib.Seq.{drop-cons}
 use borrow.Author.Tests.{eq-eqb, ne-eqb, eqb-true}
-use Rattle.pkg_length.specs.Refusal.{pick}
-use Rattle.name_object.specs.Component.{Component, root, up, seg, spellOne}
+use Rattle.name_object.specs.Component.{root, up, spellOne}
 use Rattle.name_object.specs.Name.{carets, prefixOf}
 
 module _ (xs : List ℕ) (k : ℕ) where
@@ -47,8 +46,8 @@ carets-byte [] i h = absurd (omega arith)
 carets-byte (x ∷ xs) i h = go (carets-byte xs) (eqb x 0x5E) refl i h
   where
     go : ((i : ℕ) → i < length (carets xs) → spellOne (getD (carets xs) i up) ≡ getD xs i 0 ∷ 0 ∷ 0 ∷ 0 ∷ []) →
-        (t : Bool) → eqb x 0x5E ≡ t → (i : ℕ) → i < length (pick t (up ∷ carets xs) []) →
-        spellOne (getD (pick t (up ∷ carets xs) []) i up) ≡ getD (x ∷ xs) i 0 ∷ 0 ∷ 0 ∷ 0 ∷ []
+        (t : Bool) → eqb x 0x5E ≡ t → (i : ℕ) → i < length (cond t (up ∷ carets xs) []) →
+        spellOne (getD (cond t (up ∷ carets xs) []) i up) ≡ getD (x ∷ xs) i 0 ∷ 0 ∷ 0 ∷ 0 ∷ []
     go ih true e zero h = ap (λ (n : ℕ). n ∷ 0 ∷ 0 ∷ 0 ∷ []) (sym (eqb-true x 0x5E e))
     go ih true e (suc i) h = ih i (omega arith)
     go ih false e i h = absurd (omega arith)
@@ -57,8 +56,8 @@ pub prefix-byte : (xs : List ℕ) (i : ℕ) → i < length (prefixOf xs) → spe
 unfolding prefixOf
 prefix-byte xs i h = go (eqb (getD xs 0 0) 0x5C) refl i h
   where
-    go : (t : Bool) → eqb (getD xs 0 0) 0x5C ≡ t → (i : ℕ) → i < length (pick t (root ∷ []) (carets xs)) →
-        spellOne (getD (pick t (root ∷ []) (carets xs)) i up) ≡ getD xs i 0 ∷ 0 ∷ 0 ∷ 0 ∷ []
+    go : (t : Bool) → eqb (getD xs 0 0) 0x5C ≡ t → (i : ℕ) → i < length (cond t (root ∷ []) (carets xs)) →
+        spellOne (getD (cond t (root ∷ []) (carets xs)) i up) ≡ getD xs i 0 ∷ 0 ∷ 0 ∷ 0 ∷ []
     go true e zero h = ap (λ (n : ℕ). n ∷ 0 ∷ 0 ∷ 0 ∷ []) (sym (eqb-true (getD xs 0 0) 0x5C e))
     go true e (suc i) h = absurd (omega arith)
     go false e i h = carets-byte xs i h

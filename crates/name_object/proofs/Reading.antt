@@ -1,19 +1,18 @@
 -- Segments read at an offset: what each test of the code says of the definition. A segment is four characters, each given or refused in turn;
 -- n segments are one segment and the n - 1 behind it.
-use mathlib.Core.Path.{_≡_, refl, sym, _∙_, ap}
-use mathlib.Core.Bool.{Bool, true, false}
-use mathlib.Core.List.{List, [], _∷_, _++_}
-use Prim.Native.Nat.{ℕ, zero, suc, _+_, _-_, _*_, _≤_, _<_}
+use mathlib.Core.Path.{_≡_, refl, sym, _∙_}
+use mathlib.Core.Bool.{Bool, true, false, cond}
+use mathlib.Core.List.{List, _∷_}
+use Prim.Native.Nat.{ℕ, zero, suc, _+_, _-_, _≤_, _<_}
 use native.Mathlib.Omega.{arith}
 use lib.Dec.{ltb, eqb}
-use lib.ListN.{length, getD, drop}
-use lib.Seq.{getD-drop, drop-drop}
+use lib.ListN.{length, getD}
 use borrow.Author.Tests.{lt-ltb, le-ltb, ltb-true, ne-eqb, eqb-true, eqb-false}
-use Rattle.pkg_length.specs.Refusal.{Answer, gives, refuses, andThen, pick}
+use Rattle.pkg_length.specs.Refusal.{Answer, gives, refuses, andThen}
 use Rattle.pkg_length.proofs.Answers.{refuses-not, gives-same, then-gives, then-refuses}
 use Rattle.name_object.specs.Component.{Component, seg, leadOk, charOk}
 use Rattle.name_object.specs.Name.{byteAt, char, segment, segments}
-use Rattle.name_object.specs.Inside.{segChar, cut, segmentEnd, runOf}
+use Rattle.name_object.specs.Inside.{segChar, segmentEnd, runOf}
 use Rattle.name_object.specs.declared.Run.{Run}
 
 -- ## A byte, a character
@@ -31,7 +30,7 @@ module _ (xs : List ℕ) (p : ℕ) where
   unfolding byteAt
   byte-was b = go (ltb p (length xs)) refl
     where
-      go : (t : Bool) → ltb p (length xs) ≡ t → pick t (gives (getD xs p 0)) (refuses 1 (length xs)) ≡ gives b → (p < length xs) × (getD xs p 0 ≡ b)
+      go : (t : Bool) → ltb p (length xs) ≡ t → cond t (gives (getD xs p 0)) (refuses 1 (length xs)) ≡ gives b → (p < length xs) × (getD xs p 0 ≡ b)
       go true e h = (ltb-true _ _ e, gives-same h)
       go false e h = refuses-not h
 
@@ -51,11 +50,11 @@ module _ (ok : ℕ → Bool) (xs : List ℕ) (p : ℕ) where
   pub char-was : (b : ℕ) → char ok xs p ≡ gives b → (p < length xs) × (ok (getD xs p 0) ≡ true) × (getD xs p 0 ≡ b)
   unfolding char
   char-was b h =
-      let t = then-gives (byteAt xs p) (λ x. pick (ok x) (gives x) (refuses 6 p)) h in
+      let t = then-gives (byteAt xs p) (λ x. cond (ok x) (gives x) (refuses 6 p)) h in
       let w = byte-was xs p (t .0) (t .1) in
       go w (ok (t .0)) refl (t .2)
     where
-      go : {x : ℕ} → (p < length xs) × (getD xs p 0 ≡ x) → (r : Bool) → ok x ≡ r → pick r (gives x) (refuses 6 p) ≡ gives b →
+      go : {x : ℕ} → (p < length xs) × (getD xs p 0 ≡ x) → (r : Bool) → ok x ≡ r → cond r (gives x) (refuses 6 p) ≡ gives b →
           (p < length xs) × (ok (getD xs p 0) ≡ true) × (getD xs p 0 ≡ b)
       go w true e h = (w .0, rw (w .1) e, w .1 ∙ gives-same h)
       go w false e h = refuses-not h

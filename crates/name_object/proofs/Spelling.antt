@@ -2,22 +2,22 @@
 -- front of the bytes, the reader gives (complete); so one string of bytes has one spelling at its front.
 use mathlib.Core.Path.{_≡_, refl, sym, _∙_, ap, subst}
 use mathlib.Core.Logic.{_↔_}
-use mathlib.Core.Bool.{Bool, true, false}
-use mathlib.Core.List.{List, [], _∷_, _++_, append-assoc, append-nil}
+use mathlib.Core.Bool.{Bool, true, false, cond}
+use mathlib.Core.List.{List, [], _∷_, _++_, append-assoc}
 use Prim.Native.Nat.{ℕ, zero, suc, _+_, _-_, _*_, _≤_, _<_}
 use native.Mathlib.Omega.{arith}
 use lib.Dec.{eqb, leb}
 use lib.ListN.{length, getD, take, drop, length-append, length-drop, take-append-drop}
 use lib.Seq.{drop-cons, drop-at, take-at, drop-drop, getD-drop, length-take-le}
 use borrow.Author.Tests.{eqb-true, eqb-false, ne-eqb, leb-true}
-use Rattle.pkg_length.specs.Refusal.{Answer, gives, refuses, andThen, pick}
+use Rattle.pkg_length.specs.Refusal.{Answer, gives, refuses, andThen}
 use Rattle.pkg_length.proofs.Answers.{refuses-not, gives-same, then-gives}
 use Rattle.name_object.specs.Component.{Component, root, up, seg, leadOk, charOk, segOk, fine}
 use Rattle.name_object.specs.Memory.{Named, nameOf, pathIn}
 use Rattle.name_object.specs.Name.{byteAt, segment, segments, runAt, namePath, carets, prefixOf, spelled, judged, nameString}
 use Rattle.name_object.specs.Grammar.{Segment, four, Segments, none, more, NamePath, null, dual, multi, one, Prefixed, plain, above, NameString, rooted, prefixed}
 use Rattle.name_object.specs.declared.Run.{Run}
-use Rattle.name_object.proofs.Reading.{byte-here, byte-was, Was, seg-was, seg-there}
+use Rattle.name_object.proofs.Reading.{byte-here, byte-was, seg-was, seg-there}
 use Rattle.name_object.proofs.Paths.{path-back, fine-later}
 use Rattle.name_object.proofs.Answers.{run, judged-whole}
 
@@ -101,8 +101,8 @@ run-sound xs p f n cs h sg =
     count e = ap (λ (r : Run). r .count) (gives-same e)
 
     go : (b : ℕ) → Stands (λ s. s ≡ b ∷ []) xs p (p + 1) → (s t u : Bool) → eqb b 0x00 ≡ s → eqb b 0x2E ≡ t → eqb b 0x2F ≡ u →
-        pick s (gives (run (p + 1) 0)) (pick t (gives (run (p + 1) 2))
-        (pick u (andThen (byteAt xs (p + 1)) (λ m. gives (run (p + 2) m))) (gives (run p 1)))) ≡ gives (run f n) →
+        cond s (gives (run (p + 1) 0)) (cond t (gives (run (p + 1) 2))
+        (cond u (andThen (byteAt xs (p + 1)) (λ m. gives (run (p + 2) m))) (gives (run p 1)))) ≡ gives (run f n) →
         Stands (NamePath cs) xs p (f + 4 * n)
     go b st true t u e₁ e₂ e₃ h =
         joined {G = λ s. s ≡ b ∷ []} {H = Segments n cs} {K = NamePath cs} xs p f (f + 4 * n)
@@ -135,7 +135,7 @@ carets-sound [] cs q st = record { bytes = st .bytes; rest = st .rest; here = st
 carets-sound (x ∷ xs) cs q st = go (carets-sound xs cs) (eqb x 0x5E) refl st
   where
     go : ((k : ℕ) → Stands (NamePath cs) xs (length (carets xs)) k → Stands (Prefixed (carets xs ++ cs)) xs 0 k) → (t : Bool) → eqb x 0x5E ≡ t →
-        Stands (NamePath cs) (x ∷ xs) (length (pick t (up ∷ carets xs) [])) q → Stands (Prefixed (pick t (up ∷ carets xs) [] ++ cs)) (x ∷ xs) 0 q
+        Stands (NamePath cs) (x ∷ xs) (length (cond t (up ∷ carets xs) [])) q → Stands (Prefixed (cond t (up ∷ carets xs) [] ++ cs)) (x ∷ xs) 0 q
     go ih true e st =
         let r = ih (q - 1) (record { bytes = st .bytes; rest = st .rest; here = st .here; ends = omega (arith, st .ends); is = st .is }) in
         record {
@@ -160,7 +160,7 @@ spelled-stands xs v h = go xs (eqb (getD xs 0 0) 0x5C) refl h
     named {ys} e st = subst (λ (w : Named ℕ). Stands (NameString (w .path)) ys 0 (w .value)) e st
 
     go : (ys : List ℕ) (t : Bool) → eqb (getD ys 0 0) 0x5C ≡ t →
-        andThen (namePath ys (length (pick t (root ∷ []) (carets ys)))) (λ n. gives (record { path = pick t (root ∷ []) (carets ys) ++ n .path; value = n .value })) ≡ gives v →
+        andThen (namePath ys (length (cond t (root ∷ []) (carets ys)))) (λ n. gives (record { path = cond t (root ∷ []) (carets ys) ++ n .path; value = n .value })) ≡ gives v →
         Stands (NameString (v .path)) ys 0 (v .value)
     go [] true e h = absurd (let z : _≡_ {A = Bool} false true = e in let y : _≡_ {A = ℕ} 0 1 = cc in omega arith)
     go (y ∷ ys) true e h =
@@ -363,7 +363,7 @@ judged-was : (limit : ℕ) (n v : Named ℕ) → judged limit n ≡ gives v → 
 unfolding judged
 judged-was limit n v h = go (eqb (length (n .path)) 0) (leb (length (n .path)) limit) refl refl h
   where
-    go : (s t : Bool) → eqb (length (n .path)) 0 ≡ s → leb (length (n .path)) limit ≡ t → pick s (refuses 7 0) (pick t (gives n) (refuses 9 0)) ≡ gives v →
+    go : (s t : Bool) → eqb (length (n .path)) 0 ≡ s → leb (length (n .path)) limit ≡ t → cond s (refuses 7 0) (cond t (gives n) (refuses 9 0)) ≡ gives v →
         (n ≡ v) × (0 < length (n .path)) × (length (n .path) ≤ limit)
     go true t e f h = refuses-not h
     go false false e f h = refuses-not h

@@ -1,10 +1,10 @@
 -- What the functions inside promise one another. No public contract rests on these.
 use Prim.Native.Nat.{ℕ, zero, suc, _+_}
-use mathlib.Core.Bool.{Bool}
+use mathlib.Core.Bool.{Bool, cond}
 use mathlib.Core.List.{List, [], _∷_}
 use lib.Dec.{eqb}
 use lib.ListN.{getD, drop}
-use Rattle.pkg_length.specs.Refusal.{Answer, gives, refused, andThen, pick}
+use Rattle.pkg_length.specs.Refusal.{Answer, gives, refused, andThen}
 use Rattle.name_object.specs.Component.{Component, seg, leadOk, charOk}
 use Rattle.name_object.specs.Name.{byteAt, segment, segments, runAt}
 use Rattle.name_object.specs.declared.Cursor.{Cursor}
@@ -21,7 +21,7 @@ runSaid (RunAnswer.Refused e) = refused e
 
 -- character k of a segment: the first is a lead
 unfoldable pub segChar : ℕ → ℕ → Bool
-segChar k b = pick (eqb k 0) (leadOk b) (charOk b)
+segChar k b = cond (eqb k 0) (leadOk b) (charOk b)
 
 -- the n segments at the front of bytes that were tested
 unfoldable pub cut : ℕ → List ℕ → List Component

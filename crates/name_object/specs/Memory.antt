@@ -1,10 +1,10 @@
 -- A path in memory: a count beside four bytes for each component, zero-filled. One definition writes it, one reads it or refuses it (26).
 use Prim.Native.Nat.{ℕ, zero, suc, _+_, _-_, _*_}
-use mathlib.Core.Bool.{Bool, true, false}
+use mathlib.Core.Bool.{Bool, true, false, cond}
 use mathlib.Core.List.{List, [], _∷_, _++_}
 use lib.Dec.{leb, eqb}
 use lib.ListN.{length, getD, drop, set, replicate}
-use Rattle.pkg_length.specs.Refusal.{Answer, gives, refuses, pick}
+use Rattle.pkg_length.specs.Refusal.{Answer, gives, refuses}
 use Rattle.name_object.specs.Component.{Component, root, up, seg, segOk, spell}
 use Rattle.name_object.specs.declared.AmlName.{AmlName}
 
@@ -17,7 +17,7 @@ nameOf limit cs = record { count = length cs; bytes = spell cs ++ zeros (4 * (li
 
 -- memory to components: the first of the four bytes tells the kind
 unfoldable pub componentOf : ℕ → ℕ → ℕ → ℕ → Component
-componentOf a b c d = pick (eqb a 0x5C) root (pick (eqb a 0x5E) up (seg a b c d))
+componentOf a b c d = cond (eqb a 0x5C) root (cond (eqb a 0x5E) up (seg a b c d))
 
 unfoldable pub components : ℕ → List ℕ → List Component
 components zero bs = []
@@ -28,31 +28,31 @@ pathOf name = components (name .count) (name .bytes)
 
 unfoldable pub allZero : List ℕ → Bool
 allZero [] = true
-allZero (b ∷ bs) = pick (eqb b 0) (allZero bs) false
+allZero (b ∷ bs) = cond (eqb b 0) (allZero bs) false
 
 -- nothing but zeros behind a `\` or a `^`
 unfoldable pub bare : ℕ → ℕ → ℕ → Bool
-bare b c d = pick (eqb b 0) (pick (eqb c 0) (eqb d 0) false) false
+bare b c d = cond (eqb b 0) (cond (eqb c 0) (eqb d 0) false) false
 
 -- four bytes are a component; `\` only where it may stand, first
 unfoldable pub kindOk : Bool → ℕ → ℕ → ℕ → ℕ → Bool
 kindOk first a b c d =
-    pick (eqb a 0x5C) (pick first (bare b c d) false)
-    (pick (eqb a 0x5E) (bare b c d)
+    cond (eqb a 0x5C) (cond first (bare b c d) false)
+    (cond (eqb a 0x5E) (bare b c d)
     (segOk a b c d))
 
 -- n components, the first of them first, and then nothing but zeros
 unfoldable pub bytesOk : Bool → ℕ → List ℕ → Bool
 bytesOk first zero bs = allZero bs
-bytesOk first (suc n) bs = pick (kindOk first (getD bs 0 0) (getD bs 1 0) (getD bs 2 0) (getD bs 3 0)) (bytesOk false n (drop 4 bs)) false
+bytesOk first (suc n) bs = cond (kindOk first (getD bs 0 0) (getD bs 1 0) (getD bs 2 0) (getD bs 3 0)) (bytesOk false n (drop 4 bs)) false
 
 -- memory is a path: at most `limit` components, each of a kind, a root only first, every spare byte zero
 unfoldable pub pathOk : ℕ → AmlName → Bool
-pathOk limit name = pick (leb (name .count) limit) (bytesOk true (name .count) (name .bytes)) false
+pathOk limit name = cond (leb (name .count) limit) (bytesOk true (name .count) (name .bytes)) false
 
 -- the path that memory holds, or 26
 unfoldable pub pathIn : ℕ → AmlName → Answer (List Component)
-pathIn limit name = pick (pathOk limit name) (gives (pathOf name)) (refuses 26 0)
+pathIn limit name = cond (pathOk limit name) (gives (pathOf name)) (refuses 26 0)
 
 -- a path, and what an answer gives with it
 pub record Named (A : Type 0) : Type 0 where

@@ -1,15 +1,14 @@
 -- A bare segment in memory, a path cut short, and a bare segment put behind it.
-use mathlib.Core.Path.{_≡_, refl, ap, ap₂, sym, subst, _∙_}
-use mathlib.Core.Bool.{Bool, true, false}
+use mathlib.Core.Path.{_≡_, refl, ap, sym, _∙_}
+use mathlib.Core.Bool.{Bool, true, false, cond}
 use mathlib.Core.List.{List, [], _∷_, _++_}
-use Prim.Native.Nat.{ℕ, zero, suc, _+_, _*_, _-_, _<_, _≤_}
+use Prim.Native.Nat.{ℕ, _-_, _<_, _≤_}
 use native.Mathlib.Omega.{arith}
-use lib.Dec.{leb, ltb, eqb}
-use lib.ListN.{length, take, getD, length-take}
+use lib.Dec.{leb, eqb}
+use lib.ListN.{length, take, getD}
 use lib.Seq.{length-take-le, take-take}
 use borrow.Author.Tests.{eqb-true}
-use Rattle.pkg_length.specs.Refusal.{Answer, gives, refuses, pick}
-use Rattle.name_object.specs.Component.{Component, root, up, seg, leadOk, charOk, segOk, fine, spellOne, componentLimit}
+use Rattle.name_object.specs.Component.{Component, root, up, seg, leadOk, segOk, fine, spellOne, componentLimit}
 use Rattle.name_object.specs.Memory.{nameOf, kindOk, componentOf, components, bytesOk, pathOk, pathOf, pushed, popped}
 use Rattle.name_object.specs.declared.AmlName.{AmlName}
 use Rattle.name_object.proofs.Paths.{both, path-fine, name-whole}
@@ -21,7 +20,7 @@ use Rattle.path.specs.Normal.{oneSegment}
 use Rattle.namespace.specs.Search.{firstOf}
 use Rattle.namespace.specs.Inside.{Settled, Bare}
 use Rattle.table.proofs.Shape.{clash}
-use Rattle.namespace.proofs.Keys.{SegAt, seg-number, settled-kept}
+use Rattle.namespace.proofs.Keys.{SegAt, seg-number}
 
 -- the test of one bare segment
 not-one : (cs : List Component) → (length cs ≡ 1 → ⊥) → oneSegment cs ≡ false
@@ -46,8 +45,8 @@ one-kind : (a b c d : ℕ) → kindOk true a b c d ≡ true → leadOk a ≡ one
 unfolding kindOk componentOf
 one-kind a b c d h = go (eqb a 0x5C) (eqb a 0x5E) refl refl h
   where
-    go : (s t : Bool) → eqb a 0x5C ≡ s → eqb a 0x5E ≡ t → pick s (pick true (Rattle.name_object.specs.Memory.bare b c d) false) (pick t (Rattle.name_object.specs.Memory.bare b c d) (segOk a b c d)) ≡ true
-        → leadOk a ≡ oneSegment (pick s root (pick t up (seg a b c d)) ∷ [])
+    go : (s t : Bool) → eqb a 0x5C ≡ s → eqb a 0x5E ≡ t → cond s (cond true (Rattle.name_object.specs.Memory.bare b c d) false) (cond t (Rattle.name_object.specs.Memory.bare b c d) (segOk a b c d)) ≡ true
+        → leadOk a ≡ oneSegment (cond s root (cond t up (seg a b c d)) ∷ [])
     go true t p q h = ap leadOk (eqb-true a 0x5C p) ∙ lead-root
     go false true p q h = ap leadOk (eqb-true a 0x5E q) ∙ lead-up
     go false false p q h = unfold segOk in both (leadOk a) _ h .0

@@ -10,7 +10,7 @@ use Rattle.pkg_length.specs.Refusal.{Answer, gives, refuses, refused, andThen}
 use Rattle.pkg_length.specs.declared.AmlError.{AmlError}
 use Rattle.table.specs.Limits.{Limits}
 use Rattle.table.specs.Tree.{Tree}
-use Rattle.table.specs.Memory.{wellFormed, decode, means, size, Edited, Left, left}
+use Rattle.table.specs.Memory.{wellFormed, decode, means, size, Edited, left}
 use Rattle.table.proofs.Objects.{means-formed, means-unformed, fresh-words}
 use Rattle.namespace.specs.Calls.{newCall}
 

@@ -1,6 +1,6 @@
 -- A path's keys: what the records have for its components.
-use mathlib.Core.Path.{_≡_, refl, ap, ap₂, sym, subst, _∙_}
-use mathlib.Core.Bool.{Bool, true, false}
+use mathlib.Core.Path.{_≡_, refl, ap, sym, subst, _∙_}
+use mathlib.Core.Bool.{Bool, true, false, cond}
 use mathlib.Core.List.{List, [], _∷_, _++_}
 use Prim.Native.Nat.{ℕ, zero, suc, _+_, _*_, _/_, _%_, _<_, _≤_}
 use native.Mathlib.Omega.{arith}
@@ -9,10 +9,10 @@ use lib.Dec.{leb, ltb, eqb}
 use lib.ListN.{length, take, getD, set}
 use lib.Seq.{take-suc, take-suc-set, take-all}
 use borrow.Author.Tests.{eqb-true, leb-true, ltb-true, ltb-false}
-use Rattle.pkg_length.specs.Refusal.{Answer, gives, refuses, refused, andThen, pick}
+use Rattle.pkg_length.specs.Refusal.{Answer, gives, refuses, refused, andThen}
 use Rattle.pkg_length.specs.declared.AmlError.{AmlError}
 use Rattle.name_object.specs.Component.{Component, root, up, seg, leadOk, digitOk, charOk, segOk, fine, spellOne, componentLimit}
-use Rattle.name_object.specs.Memory.{Told, told, nameOf, pathOk, pathOf, pathIn}
+use Rattle.name_object.specs.Memory.{told, nameOf, pathOk, pathOf, pathIn}
 use Rattle.name_object.specs.declared.AmlName.{AmlName}
 use Rattle.name_object.proofs.Paths.{both, path-fine, fine-path}
 use Rattle.path.specs.Normal.{absolute, isNormal, normal, resolved, alone, pathTold}
@@ -34,7 +34,7 @@ lead-low : (b : ℕ) → leadOk b ≡ true → b < 96
 unfolding leadOk
 lead-low b h = go (eqb b 0x5F) refl h
   where
-    go : (t : Bool) → eqb b 0x5F ≡ t → pick t true (pick (leb 0x41 b) (leb b 0x5A) false) ≡ true → b < 96
+    go : (t : Bool) → eqb b 0x5F ≡ t → cond t true (cond (leb 0x41 b) (leb b 0x5A) false) ≡ true → b < 96
     go true e k = omega (arith, eqb-true b 0x5F e)
     go false e k = omega (arith, leb-true b 0x5A (both (leb 0x41 b) (leb b 0x5A) k .1))
 
@@ -42,7 +42,7 @@ char-low : (b : ℕ) → charOk b ≡ true → b < 96
 unfolding charOk digitOk
 char-low b h = go (leadOk b) refl h
   where
-    go : (t : Bool) → leadOk b ≡ t → pick t true (pick (leb 0x30 b) (leb b 0x39) false) ≡ true → b < 96
+    go : (t : Bool) → leadOk b ≡ t → cond t true (cond (leb 0x30 b) (leb b 0x39) false) ≡ true → b < 96
     go true e k = lead-low b e
     go false e k = omega (arith, leb-true b 0x39 (both (leb 0x30 b) (leb b 0x39) k .1))
 
@@ -191,7 +191,7 @@ settled-fine : (cs ns : List Component) → fine true cs ≡ true → settled co
 unfolding settled
 settled-fine cs ns f h = go (absolute cs) refl h
   where
-    go : (t : Bool) → absolute cs ≡ t → pick t (normal componentLimit cs) (refuses 11 0) ≡ gives ns → Kept componentLimit ns
+    go : (t : Bool) → absolute cs ≡ t → cond t (normal componentLimit cs) (refuses 11 0) ≡ gives ns → Kept componentLimit ns
     go true e k = normal-kept componentLimit cs ns f e k
     go false e k = absurd (let z : _≡_ {A = ℕ} 0 1 = cc in omega arith)
 
@@ -217,7 +217,7 @@ module _ (path : AmlName) (r : PathAnswer) (h : pathTold r ≡ told componentLim
   unfolding asked pathIn
   given ns e = go (pathOk componentLimit path) refl e
     where
-      go : (t : Bool) → pathOk componentLimit path ≡ t → andThen (pick t (gives (pathOf path)) (refuses 26 0)) (settled componentLimit) ≡ gives ns → Kept componentLimit ns
+      go : (t : Bool) → pathOk componentLimit path ≡ t → andThen (cond t (gives (pathOf path)) (refuses 26 0)) (settled componentLimit) ≡ gives ns → Kept componentLimit ns
       go true f k = settled-fine (pathOf path) ns (path-fine componentLimit path f .0) k
       go false f k = absurd (let z : _≡_ {A = ℕ} 0 1 = cc in omega arith)
 
@@ -279,7 +279,7 @@ module _ (path scope : AmlName) (r : PathAnswer)
   joined-given ns e = go (pathOk componentLimit path) (pathOk componentLimit scope) refl refl e
     where
       go : (t u : Bool) → pathOk componentLimit path ≡ t → pathOk componentLimit scope ≡ u
-          → andThen (pick t (gives (pathOf path)) (refuses 26 0)) (λ cs. andThen (pick u (gives (pathOf scope)) (refuses 26 0)) (λ ss. resolved componentLimit cs ss)) ≡ gives ns → Kept componentLimit ns
+          → andThen (cond t (gives (pathOf path)) (refuses 26 0)) (λ cs. andThen (cond u (gives (pathOf scope)) (refuses 26 0)) (λ ss. resolved componentLimit cs ss)) ≡ gives ns → Kept componentLimit ns
       go true true f g k = resolved-kept componentLimit (pathOf path) (pathOf scope) ns (path-fine componentLimit path f .0) (path-fine componentLimit scope g .0) k
       go true false f g k = absurd (let z : _≡_ {A = ℕ} 0 1 = cc in omega arith)
       go false u f g k = absurd (let z : _≡_ {A = ℕ} 0 1 = cc in omega arith)

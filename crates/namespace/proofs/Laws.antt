@@ -1,13 +1,13 @@
 -- What the order asks of the calls, under plain names: whatever any call leaves is well-formed, and what a search answers is the innermost.
 use mathlib.Core.Path.{_≡_, refl, ap, sym, subst, _∙_}
-use mathlib.Core.Bool.{Bool, true, false}
+use mathlib.Core.Bool.{Bool, true, false, cond}
 use mathlib.Core.List.{List, [], _∷_, _++_}
-use Prim.Native.Nat.{ℕ, suc, _+_, _-_, _<_, _≤_}
+use Prim.Native.Nat.{ℕ, _+_, _-_, _<_, _≤_}
 use native.Mathlib.Omega.{arith}
 use lib.ListN.{length, take}
 use lib.Seq.{length-take-le}
 use borrow.Author.Tests.{eq-eqb}
-use Rattle.pkg_length.specs.Refusal.{Answer, gives, refuses, andThen, pick}
+use Rattle.pkg_length.specs.Refusal.{Answer, gives, refuses, andThen}
 use Rattle.name_object.specs.Component.{Component, fine}
 use Rattle.name_object.specs.Memory.{Named, pathOk, pathOf, pathIn}
 use Rattle.name_object.specs.declared.AmlName.{AmlName}
@@ -15,16 +15,15 @@ use Rattle.name_object.proofs.Paths.{path-fine}
 use Rattle.path.specs.Normal.{absolute, normal, resolved}
 use Rattle.path.proofs.Laws.{Kept, normal-kept, resolved-kept}
 use Rattle.table.specs.Limits.{Limits}
-use Rattle.table.specs.Tree.{Tree, key, keys}
-use Rattle.table.specs.Layout.{encode}
-use Rattle.table.specs.Memory.{wellFormed, decode, means, size, Edited, Left, left, done, freshTree}
-use Rattle.table.specs.Edits.{lastOf, addLevel, removeLevel, lookUp, addValue, addAlias, valueOf, setValue}
+use Rattle.table.specs.Tree.{Tree, keys}
+use Rattle.table.specs.Memory.{wellFormed, decode, means, size, Edited, left, done}
+use Rattle.table.specs.Edits.{addLevel, removeLevel, lookUp, addValue, addAlias, setValue}
 use Rattle.table.specs.Search.{Found, Hit, outward, valueIn, levelIn, named, searchUp, levelUp}
 use Rattle.table.proofs.Whole.{Whole, valid-whole}
 use Rattle.table.proofs.Memory.{formed-whole}
 use Rattle.table.proofs.Objects.{means-formed}
 use Rattle.table.proofs.Near.{length-keys}
-use Rattle.table.proofs.Laws.{fresh-is-well-formed, left-is-well-formed, GoodKeys, add-level-valid, remove-level-valid, add-value-valid, add-alias-valid, set-value-valid, Refuses, Innermost, search-finds-innermost, scopes-asked, none-found}
+use Rattle.table.proofs.Laws.{fresh-is-well-formed, left-is-well-formed, GoodKeys, add-level-valid, remove-level-valid, add-value-valid, add-alias-valid, set-value-valid, Refuses, search-finds-innermost, scopes-asked}
 use Rattle.namespace.specs.declared.LevelType.{LevelType}
 use Rattle.namespace.specs.declared.LevelType.the-variants.{Scope, Device, Processor, PowerResource, ThermalZone, MethodLocals}
 use Rattle.namespace.specs.Calls.{newCall, settled, settledKeys, resolvedKeys, typeNumber, addLevelCall, removeLevelCall, addValueCall, addValueResolvedCall, aliasAt, addAliasCall, setCall, setByPathCall}
@@ -48,7 +47,7 @@ read-path : (limit : ℕ) (name : AmlName) (cs : List Component) → pathIn limi
 unfolding pathIn
 read-path limit name cs e = go (pathOk limit name) refl e
   where
-    go : (x : Bool) → pathOk limit name ≡ x → pick x (gives (pathOf name)) (refuses 26 0) ≡ gives cs → fine true cs ≡ true
+    go : (x : Bool) → pathOk limit name ≡ x → cond x (gives (pathOf name)) (refuses 26 0) ≡ gives cs → fine true cs ≡ true
     go true h e = subst (λ (l : List Component). fine true l ≡ true) (gives-same e) (path-fine limit name h .0)
     go false h e = no-gift e
 
@@ -56,7 +55,7 @@ settled-kept : (limit : ℕ) (cs ns : List Component) → fine true cs ≡ true 
 unfolding settled
 settled-kept limit cs ns f e = go (absolute cs) refl e
   where
-    go : (x : Bool) → absolute cs ≡ x → pick x (normal limit cs) (refuses 11 0) ≡ gives ns → Kept limit ns
+    go : (x : Bool) → absolute cs ≡ x → cond x (normal limit cs) (refuses 11 0) ≡ gives ns → Kept limit ns
     go true a e = normal-kept limit cs ns f a e
     go false a e = no-gift e
 

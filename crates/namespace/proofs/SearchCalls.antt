@@ -1,32 +1,30 @@
 -- What the search answers, from what the one pass found.
-use mathlib.Core.Path.{_≡_, refl, ap, ap₂, sym, subst, _∙_}
-use mathlib.Core.Bool.{Bool, true, false}
+use mathlib.Core.Path.{_≡_, refl, ap, ap₂, sym, _∙_}
+use mathlib.Core.Bool.{true, false, cond}
 use mathlib.Core.List.{List, [], _∷_, _++_}
-use Prim.Native.Nat.{ℕ, zero, suc, _+_, _-_, _<_, _≤_}
+use Prim.Native.Nat.{ℕ, _+_, _-_, _<_, _≤_}
 use native.Mathlib.Omega.{arith}
 use lib.ListN.{length, take, drop}
-use Rattle.pkg_length.specs.Refusal.{Answer, gives, refuses, refused, andThen, pick}
+use Rattle.pkg_length.specs.Refusal.{Answer, gives, refuses, refused, andThen}
 use Rattle.pkg_length.specs.declared.AmlError.{AmlError}
 use Rattle.name_object.specs.Component.{Component, componentLimit}
 use Rattle.name_object.specs.Memory.{Named, Told, told, nameOf, pathOk, pathOf, pathIn}
 use Rattle.name_object.specs.declared.AmlName.{AmlName}
-use Rattle.name_object.proofs.Paths.{name-whole}
 use Rattle.path.specs.Normal.{resolved, oneSegment}
 use Rattle.path.proofs.Walks.{length-path}
-use Rattle.path.proofs.Laws.{Kept}
 use Rattle.table.specs.Limits.{Limits, limits}
 use Rattle.table.specs.Tree.{Tree, key, keys}
-use Rattle.table.specs.Memory.{wellFormed, decode, means}
+use Rattle.table.specs.Memory.{wellFormed, decode}
 use Rattle.table.specs.Edits.{lookUp}
-use Rattle.namespace.specs.Calls.{settled, settledKeys}
-use Rattle.table.specs.Search.{Found, Hit, named, searchUp, levelUp}
+use Rattle.namespace.specs.Calls.{settled}
+use Rattle.table.specs.Search.{Hit, named, searchUp, levelUp}
 use Rattle.namespace.specs.Search.{firstOf, searchOnce, searchCall, levelCall}
 use Rattle.table.specs.Inside.{nearIn, farthest, nearLevelIn}
-use Rattle.namespace.specs.Inside.{Settled, Bare}
+use Rattle.namespace.specs.Inside.{Settled}
 use Rattle.table.specs.declared.inner.Nearest.{Nearest}
 use Rattle.table.proofs.Objects.{whole, means-formed, means-unformed}
 use Rattle.namespace.proofs.Keys.{settled-kept}
-use Rattle.table.proofs.Near.{Deep, nearF, foundOf, askValue, value-search, value-deep}
+use Rattle.table.proofs.Near.{Deep, nearF, foundOf, value-search, value-deep}
 use Rattle.table.proofs.NearWords.{nearestOf, near-held}
 use Rattle.table.proofs.NearLevels.{askChild, depthOf, level-held, level-search, level-deep}
 
@@ -169,7 +167,7 @@ module _ (m : Limits) (ws : List ℕ) (path scope : AmlName) where
       inner : Answer (Named Hit)
       inner =
           andThen (pathIn (m .components) scope) (λ ss. andThen (settled (m .components) ss) (λ ns.
-          pick (oneSegment (pathOf path)) (searchUp m (decode m ws) (firstOf (pathOf path)) ns) (searchOnce m (decode m ws) (pathOf path) ns)))
+          cond (oneSegment (pathOf path)) (searchUp m (decode m ws) (firstOf (pathOf path)) ns) (searchOnce m (decode m ws) (pathOf path) ns)))
 
       whole-call : searchCall m ws path scope ≡ inner
       unfolding searchCall inner
@@ -180,11 +178,11 @@ module _ (m : Limits) (ws : List ℕ) (path scope : AmlName) where
       swap (refuses n p) f g = refl
 
       scoped : (a : Answer (List Component)) → andThen (pathIn (m .components) scope) (settled (m .components)) ≡ a
-          → searchCall m ws path scope ≡ andThen a (λ ns. pick (oneSegment (pathOf path)) (searchUp m (decode m ws) (firstOf (pathOf path)) ns) (searchOnce m (decode m ws) (pathOf path) ns))
+          → searchCall m ws path scope ≡ andThen a (λ ns. cond (oneSegment (pathOf path)) (searchUp m (decode m ws) (firstOf (pathOf path)) ns) (searchOnce m (decode m ws) (pathOf path) ns))
       unfolding inner
       scoped a e =
-          whole-call ∙ swap (pathIn (m .components) scope) (settled (m .components)) (λ ns. pick (oneSegment (pathOf path)) (searchUp m (decode m ws) (firstOf (pathOf path)) ns) (searchOnce m (decode m ws) (pathOf path) ns))
-          ∙ ap (λ (x : Answer (List Component)). andThen x (λ ns. pick (oneSegment (pathOf path)) (searchUp m (decode m ws) (firstOf (pathOf path)) ns) (searchOnce m (decode m ws) (pathOf path) ns))) e
+          whole-call ∙ swap (pathIn (m .components) scope) (settled (m .components)) (λ ns. cond (oneSegment (pathOf path)) (searchUp m (decode m ws) (firstOf (pathOf path)) ns) (searchOnce m (decode m ws) (pathOf path) ns))
+          ∙ ap (λ (x : Answer (List Component)). andThen x (λ ns. cond (oneSegment (pathOf path)) (searchUp m (decode m ws) (firstOf (pathOf path)) ns) (searchOnce m (decode m ws) (pathOf path) ns))) e
 
       pub search-scope : (e : AmlError) → andThen (pathIn (m .components) scope) (settled (m .components)) ≡ refused e → refused e ≡ searchCall m ws path scope
       search-scope e h = sym (scoped (refused e) h)
@@ -207,7 +205,7 @@ module _ (m : Limits) (ws : List ℕ) (path scope : AmlName) where
               given = unfold pathIn in rw hp
 
               held : (x : Answer (List Component)) → x ≡ gives (pathOf path) → (y : Answer (List Component))
-                  → andThen x (λ cs. andThen y (λ ss. pick (oneSegment cs) (andThen (settled (m .components) ss) (λ ns. levelUp m (decode m ws) (firstOf cs) ns)) (gives (record { path = cs; value = 0 }))))
+                  → andThen x (λ cs. andThen y (λ ss. cond (oneSegment cs) (andThen (settled (m .components) ss) (λ ns. levelUp m (decode m ws) (firstOf cs) ns)) (gives (record { path = cs; value = 0 }))))
                   ≡ andThen y (λ ss. andThen (settled (m .components) ss) (λ ns. levelUp m (decode m ws) (firstOf (pathOf path)) ns))
               held x e (gives ss) = rw (e, b)
               held x e (refuses n p) = rw e

@@ -1,14 +1,13 @@
 -- What lookup, a value more and an alias leave in memory and say, by where the path's last segment is.
-use mathlib.Core.Path.{_≡_, refl, ap, ap₂, sym, subst, _∙_}
-use mathlib.Core.Bool.{Bool, true, false}
+use mathlib.Core.Path.{_≡_, refl, ap, ap₂, sym, _∙_}
+use mathlib.Core.Bool.{Bool, true, false, cond}
 use mathlib.Core.List.{List, [], _∷_, _++_}
-use Prim.Native.Nat.{ℕ, zero, suc, _+_, _*_, _-_, _<_, _≤_}
+use Prim.Native.Nat.{ℕ, _+_, _*_, _-_, _<_, _≤_}
 use native.Mathlib.Omega.{arith}
-use lib.Dec.{leb}
 use lib.ListN.{length, take, drop, getD, set}
 use lib.Seq.{getD-take, getD-drop}
 use borrow.Author.Tests.{lt-leb, le-leb}
-use Rattle.pkg_length.specs.Refusal.{Answer, gives, refuses, refused, andThen, pick}
+use Rattle.pkg_length.specs.Refusal.{Answer, gives, refuses, refused, andThen}
 use Rattle.pkg_length.specs.declared.AmlError.{AmlError}
 use Rattle.name_object.specs.Component.{Component, componentLimit}
 use Rattle.name_object.specs.Memory.{pathOk, pathOf, pathIn}
@@ -16,15 +15,14 @@ use Rattle.name_object.specs.declared.AmlName.{AmlName}
 use Rattle.name_object.proofs.Paths.{both}
 use Rattle.path.specs.Normal.{resolved}
 use Rattle.table.specs.Limits.{Limits}
-use Rattle.table.specs.Tree.{Binding, Forest, Tree, bound, keys}
+use Rattle.table.specs.Tree.{Tree, bound, keys}
 use Rattle.table.specs.Layout.{encode}
-use Rattle.table.specs.Memory.{wellFormed, decode, Edited, Left, left}
+use Rattle.table.specs.Memory.{wellFormed, decode, Edited, left}
 use Rattle.table.specs.Edits.{alter, scopeOf, lastOf, withBinding, withLevels, withObjects, nextHandle, lookUp, bind, addValue, addAlias}
 use Rattle.namespace.specs.Calls.{aliasAt, addAliasCall}
 use Rattle.table.specs.Inside.{spotIn, bindWords}
 use Rattle.table.specs.declared.inner.Spot.{Spot}
 use Rattle.table.proofs.Shape.{clash}
-use Rattle.table.proofs.Whole.{Whole}
 use Rattle.table.proofs.Objects.{whole, made-is, means-formed, means-unformed}
 use Rattle.table.proofs.Held.{bindings-room, bindings-full}
 use Rattle.table.proofs.BindCalls.{spot-refused, spot-bound, spot-live, spot-open, Open}
@@ -164,7 +162,7 @@ module _ (m : Limits) (t : Tree) (cs ss ts : List Component) where
   unfolding aliasAt
   alias-both ps qs e f = rw (e, f)
 
-pub three-paths : (path scope target : AmlName) → pick (pathOk componentLimit path) (pick (pathOk componentLimit scope) (pathOk componentLimit target) false) false ≡ true
+pub three-paths : (path scope target : AmlName) → cond (pathOk componentLimit path) (cond (pathOk componentLimit scope) (pathOk componentLimit target) false) false ≡ true
     → (pathOk componentLimit path ≡ true) × (pathOk componentLimit scope ≡ true) × (pathOk componentLimit target ≡ true)
 three-paths path scope target h =
     let a = both (pathOk componentLimit path) _ h in
@@ -182,13 +180,13 @@ module _ (m : Limits) (ws : List ℕ) (path scope target : AmlName) where
     unfolding addAliasCall pathIn
     alias-given h = rw (means-formed m ws ok, h .0, h .1, h .2)
 
-    pub alias-paths : pick (pathOk (m .components) path) (pick (pathOk (m .components) scope) (pathOk (m .components) target) false) false ≡ false → refuses 26 0 ≡ addAliasCall m ws path scope target
+    pub alias-paths : cond (pathOk (m .components) path) (cond (pathOk (m .components) scope) (pathOk (m .components) target) false) false ≡ false → refuses 26 0 ≡ addAliasCall m ws path scope target
     unfolding addAliasCall pathIn
     alias-paths h = rw (means-formed m ws ok) (go (pathOk (m .components) path) (pathOk (m .components) scope) (pathOk (m .components) target) h)
       where
-        go : (a b c : Bool) → pick a (pick b c false) false ≡ false
-            → refuses 26 0 ≡ andThen (pick a (gives (pathOf path)) (refuses 26 0)) (λ cs. andThen (pick b (gives (pathOf scope)) (refuses 26 0)) (λ ss.
-            andThen (pick c (gives (pathOf target)) (refuses 26 0)) (λ ts. aliasAt m (decode m ws) cs ss ts)))
+        go : (a b c : Bool) → cond a (cond b c false) false ≡ false
+            → refuses 26 0 ≡ andThen (cond a (gives (pathOf path)) (refuses 26 0)) (λ cs. andThen (cond b (gives (pathOf scope)) (refuses 26 0)) (λ ss.
+            andThen (cond c (gives (pathOf target)) (refuses 26 0)) (λ ts. aliasAt m (decode m ws) cs ss ts)))
         go true true true h = clash h
         go true true false h = refl
         go true false c h = refl

@@ -1,9 +1,10 @@
 -- Each public call, whole: memory is tested first (24), then paths in argument order (26), then document 01's rules for the call.
-use Prim.Native.Nat.{ℕ, zero, suc, _+_}
-use mathlib.Core.List.{List, [], _∷_}
+use mathlib.Core.Bool.{cond}
+use Prim.Native.Nat.{ℕ}
+use mathlib.Core.List.{List}
 use lib.Dec.{eqb}
 use lib.ListN.{length}
-use Rattle.pkg_length.specs.Refusal.{Answer, gives, refuses, refused, andThen, pick}
+use Rattle.pkg_length.specs.Refusal.{Answer, gives, refuses, refused, andThen}
 use Rattle.name_object.specs.Component.{Component}
 use Rattle.name_object.specs.Memory.{pathIn}
 use Rattle.name_object.specs.declared.AmlName.{AmlName}
@@ -20,11 +21,11 @@ use Rattle.namespace.specs.declared.HandleAnswer.{HandleAnswer}
 
 -- a fresh table refuses only memory of a wrong length
 unfoldable pub newCall : Limits → List ℕ → Answer (Edited (Unit {0}))
-newCall m ws = pick (eqb (length ws) (size m)) (done (gives freshTree)) (refuses 24 0)
+newCall m ws = cond (eqb (length ws) (size m)) (done (gives freshTree)) (refuses 24 0)
 
 -- edits and lookups want an absolute path (11), and go by its normal form (10)
 unfoldable pub settled : ℕ → List Component → Answer (List Component)
-settled limit cs = pick (absolute cs) (normal limit cs) (refuses 11 0)
+settled limit cs = cond (absolute cs) (normal limit cs) (refuses 11 0)
 
 -- the keys of a path argument
 unfoldable pub settledKeys : ℕ → AmlName → Answer (List ℕ)

@@ -1,7 +1,8 @@
 -- The calls that search, whole.
+use mathlib.Core.Bool.{cond}
 use Prim.Native.Nat.{ℕ}
 use mathlib.Core.List.{List, [], _∷_}
-use Rattle.pkg_length.specs.Refusal.{Answer, gives, refused, andThen, pick}
+use Rattle.pkg_length.specs.Refusal.{Answer, gives, refused, andThen}
 use Rattle.name_object.specs.Component.{Component, up}
 use Rattle.name_object.specs.Memory.{Named, Told, pathIn}
 use Rattle.name_object.specs.declared.AmlName.{AmlName}
@@ -34,7 +35,7 @@ searchCall m ws path scope =
     andThen (pathIn (m .components) path) (λ cs.
     andThen (pathIn (m .components) scope) (λ ss.
     andThen (settled (m .components) ss) (λ ns.
-    pick (oneSegment cs) (searchUp m t (firstOf cs) ns) (searchOnce m t cs ns)))))
+    cond (oneSegment cs) (searchUp m t (firstOf cs) ns) (searchOnce m t cs ns)))))
 
 -- any other path is returned unchanged, none asked
 unfoldable pub levelCall : Limits → List ℕ → AmlName → AmlName → Answer (Named ℕ)
@@ -42,7 +43,7 @@ levelCall m ws path scope =
     andThen (means m ws) (λ t.
     andThen (pathIn (m .components) path) (λ cs.
     andThen (pathIn (m .components) scope) (λ ss.
-    pick (oneSegment cs)
+    cond (oneSegment cs)
     (andThen (settled (m .components) ss) (λ ns. levelUp m t (firstOf cs) ns))
     (gives (record { path = cs; value = 0 })))))
 

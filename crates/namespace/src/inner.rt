@@ -1,10 +1,10 @@
 // What the calls are made of: paths as keys, edits of the words, and the search.
 ghost use mathlib.Core.Path.{_≡_};
-ghost use mathlib.Core.Bool.{true, false};
+ghost use mathlib.Core.Bool.{true, false, cond};
 ghost use mathlib.Core.List.{[], _∷_, _++_};
 ghost use Prim.Native.Nat.{ℕ, _+_, _-_, _*_, _<_, _≤_};
 ghost use lib.ListN.{take};
-ghost use Rattle.pkg_length.specs.Refusal.{andThen, pick, refused};
+ghost use Rattle.pkg_length.specs.Refusal.{andThen, refused};
 ghost use Rattle.name_object.specs.Component.{componentLimit};
 ghost use Rattle.name_object.specs.Memory.{told, nameOf, pathOk, pathIn, pathOf};
 ghost use Rattle.path.specs.Normal.{alone, pathTold, oneSegment};
@@ -240,7 +240,7 @@ pub fn write(table: &mut [u64], handle: AmlHandle, value: u64) -> EditAnswer
 
 // Three arguments are paths.
 pub fn are_paths(path: AmlName, scope: AmlName, target: AmlName) -> bool
-    ensures { λ r. ⌜ r ≡ pick (pathOk componentLimit path) (pick (pathOk componentLimit scope) (pathOk componentLimit target) false) false ⌝ }
+    ensures { λ r. ⌜ r ≡ cond (pathOk componentLimit path) (cond (pathOk componentLimit scope) (pathOk componentLimit target) false) false ⌝ }
 {
     if path::inner::is_path(path) {
         if path::inner::is_path(scope) {

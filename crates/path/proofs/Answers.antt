@@ -1,12 +1,12 @@
 -- What a caller learns from an answer, and the parent.
 use mathlib.Core.Path.{_≡_, refl, sym, _∙_, ap}
-use mathlib.Core.Bool.{Bool, true, false}
+use mathlib.Core.Bool.{Bool, true, false, cond}
 use mathlib.Core.List.{List, [], _∷_, _++_}
-use Prim.Native.Nat.{ℕ, zero, suc, _+_, _-_, _*_, _≤_, _<_}
+use Prim.Native.Nat.{ℕ, _-_, _≤_, _<_}
 use native.Mathlib.Omega.{arith}
 use lib.ListN.{length, take, length-append}
 use lib.Seq.{take-at}
-use Rattle.pkg_length.specs.Refusal.{Answer, gives, refuses, refused, andThen, pick}
+use Rattle.pkg_length.specs.Refusal.{Answer, gives, refuses, refused, andThen}
 use Rattle.pkg_length.specs.declared.AmlError.{AmlError}
 use Rattle.name_object.specs.Component.{Component, root, up, seg, fine}
 use Rattle.name_object.specs.Memory.{nameOf, pathOk, pathOf, pathIn, Told, told}
@@ -38,7 +38,7 @@ pub norm-fine : (limit : ℕ) (name : AmlName) (cs : List Component) → andThen
 unfolding pathIn
 norm-fine limit name cs h = go (pathOk limit name) refl h
   where
-    go : (t : Bool) → pathOk limit name ≡ t → andThen (pick t (gives (pathOf name)) (refuses 26 0)) (normal limit) ≡ gives cs → (fine true cs ≡ true) × (length cs ≤ limit)
+    go : (t : Bool) → pathOk limit name ≡ t → andThen (cond t (gives (pathOf name)) (refuses 26 0)) (normal limit) ≡ gives cs → (fine true cs ≡ true) × (length cs ≤ limit)
     go true e h = normal-fine limit (pathOf name) cs (path-fine limit name e .0) h
     go false e h = clash h
 
@@ -59,7 +59,7 @@ less-one cs x =
     let n : length cs ≡ length (cs ++ (x ∷ [])) - 1 = omega (arith, length-append cs (x ∷ [])) in
     take-at cs (x ∷ []) (length (cs ++ (x ∷ [])) - 1) n
 
-parent-as : (limit : ℕ) (cs ns : List Component) → normal limit cs ≡ gives ns → parentOf limit cs ≡ pick (top ns) (refuses 12 0) (gives (take (length ns - 1) ns))
+parent-as : (limit : ℕ) (cs ns : List Component) → normal limit cs ≡ gives ns → parentOf limit cs ≡ cond (top ns) (refuses 12 0) (gives (take (length ns - 1) ns))
 unfolding parentOf
 parent-as limit cs ns e = rw e
 
@@ -81,7 +81,7 @@ module _ (limit : ℕ) (cs : List Component) where
       ap (λ (x : List Component). limited limit (upright x)) (sym q)
       ∙ limited-in limit (upright done) (omega (arith, length-upright done))
       ∙ ap (λ (x : List Component). gives x) (sym (less-one (upright done) (seg a b c d)))
-      ∙ ap (λ (t : Bool). pick t (refuses 12 0) (gives (take (length (upright done ++ (seg a b c d ∷ [])) - 1) (upright done ++ (seg a b c d ∷ []))))) (sym (top-last (upright done) a b c d))
+      ∙ ap (λ (t : Bool). cond t (refuses 12 0) (gives (take (length (upright done ++ (seg a b c d ∷ [])) - 1) (upright done ++ (seg a b c d ∷ []))))) (sym (top-last (upright done) a b c d))
       ∙ sym (parent-as limit cs (upright done ++ (seg a b c d ∷ [])) (stood limit cs (seg a b c d ∷ done) e l))
 
   pub parent-top : (done : List Component) → walk (gives []) cs ≡ gives done → length done ≤ limit → standing done ≡ true → segmentLast done ≡ false → refuses 12 0 ≡ parentOf limit cs

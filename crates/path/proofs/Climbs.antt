@@ -1,22 +1,22 @@
 -- A walk in memory: a law for each way that a step goes, and where a walk stands after i components.
 use mathlib.Core.Path.{_≡_, refl, sym, _∙_, ap, subst, subst₂}
-use mathlib.Core.Bool.{Bool, true, false, not}
+use mathlib.Core.Bool.{Bool, true, false, not, cond}
 use mathlib.Core.List.{List, [], _∷_, _++_}
-use Prim.Native.Nat.{ℕ, zero, suc, _+_, _-_, _*_, _≤_, _<_}
+use Prim.Native.Nat.{ℕ, suc, _+_, _-_, _*_, _≤_, _<_}
 use native.Mathlib.Omega.{arith}
 use lib.Dec.{eqb}
 use lib.ListN.{length, getD, take, drop, take-append-drop}
 use lib.Seq.{take-suc, take-all, drop-cons}
 use borrow.Author.Tests.{eq-eqb, ne-eqb}
-use Rattle.pkg_length.specs.Refusal.{Answer, gives, refuses, pick}
-use Rattle.name_object.specs.Component.{Component, root, up, seg, leadOk, segOk, fine, spellOne, spell, componentLimit}
-use Rattle.name_object.specs.Memory.{nameOf, zeros, componentOf, components, pathOk, pathOf}
+use Rattle.pkg_length.specs.Refusal.{Answer, gives, refuses}
+use Rattle.name_object.specs.Component.{Component, root, up, seg, leadOk, segOk, fine, spellOne, componentLimit}
+use Rattle.name_object.specs.Memory.{zeros, componentOf, components, pathOf}
 use Rattle.name_object.specs.declared.AmlName.{AmlName}
 use Rattle.name_object.proofs.Paths.{both}
 use Rattle.path.specs.declared.climb.Climb.{Climb}
 use Rattle.path.specs.Normal.{step, walk, upright, absolute}
-use Rattle.path.specs.Inside.{shown, placed, standing, segmentLast, fresh, Shows, Climbed, Stepped, Walked}
-use Rattle.path.proofs.Basics.{wrong, never, clash, same-given}
+use Rattle.path.specs.Inside.{placed, standing, segmentLast, fresh, Shows, Climbed, Stepped, Walked}
+use Rattle.path.proofs.Basics.{wrong, never}
 use Rattle.path.proofs.Shown.{shown-none, shown-push, shown-pop, shown-last}
 use Rattle.path.proofs.Walks.{walk-append, walk-refused, length-upright, fine-any, fine-tail, fine-head, seg-of, step-good}
 
@@ -208,7 +208,7 @@ abs-of : (a b c d : ℕ) (cs : List Component) → eqb a 0x5C ≡ absolute (comp
 unfolding componentOf
 abs-of a b c d cs = go (eqb a 0x5C) (eqb a 0x5E)
   where
-    go : (s t : Bool) → s ≡ absolute (pick s root (pick t up (seg a b c d)) ∷ cs)
+    go : (s t : Bool) → s ≡ absolute (cond s root (cond t up (seg a b c d)) ∷ cs)
     go true t = refl
     go false true = refl
     go false false = refl

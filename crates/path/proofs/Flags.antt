@@ -1,22 +1,18 @@
 -- The tests of a path, and what makes one: by the first byte of each component.
 use mathlib.Core.Path.{_≡_, refl, sym, _∙_, ap}
 use mathlib.Core.Bool.{Bool, true, false}
-use mathlib.Core.List.{List, [], _∷_, _++_}
-use Prim.Native.Nat.{ℕ, zero, suc, _+_, _-_, _*_, _≤_, _<_}
+use mathlib.Core.List.{List, [], _∷_}
+use Prim.Native.Nat.{ℕ, zero, suc, _+_, _*_, _≤_, _<_}
 use native.Mathlib.Omega.{arith}
-use lib.Dec.{eqb}
 use lib.ListN.{length, getD, drop, drop-of-length-le}
 use lib.Seq.{drop-cons}
-use borrow.Author.Tests.{eq-eqb, ne-eqb}
-use Rattle.pkg_length.specs.Refusal.{Answer, gives, refuses, andThen, pick}
+use Rattle.pkg_length.specs.Refusal.{gives, refuses}
 use Rattle.name_object.specs.Component.{Component, root, up, seg, leadOk, segOk, fine, spellOne, componentLimit}
-use Rattle.name_object.specs.Memory.{nameOf, pushed, pathOk, pathOf, pathIn, told}
+use Rattle.name_object.specs.Memory.{nameOf, pushed, pathOk, pathOf, pathIn}
 use Rattle.name_object.specs.declared.AmlName.{AmlName}
 use Rattle.name_object.proofs.Memory.{push-one}
-use Rattle.name_object.proofs.Paths.{both, path-fine, name-whole}
-use Rattle.path.specs.declared.PathSaid.{PathSaid}
-use Rattle.path.specs.Normal.{isNormal, oneSegment, segmentPath, alone, pathTold}
-use Rattle.path.proofs.Basics.{wrong, never, same-told, path-good, path-bad}
+use Rattle.name_object.proofs.Paths.{path-fine}
+use Rattle.path.specs.Normal.{isNormal, oneSegment, segmentPath}
 use Rattle.path.proofs.Walks.{fine-head, fine-tail, seg-of, path-byte, length-path}
 use Rattle.path.proofs.Climbs.{is-up, not-up, lead-5C, lead-5E, seg-lead}
 

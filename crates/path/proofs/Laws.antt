@@ -1,12 +1,12 @@
 -- What the layers above cite of normalising, resolving and the parent. A walk keeps what stands good, and a root that stands first stays first.
 use mathlib.Core.Path.{_≡_, refl, sym, _∙_, ap}
-use mathlib.Core.Bool.{Bool, true, false}
+use mathlib.Core.Bool.{Bool, true, false, cond}
 use mathlib.Core.List.{List, [], _∷_, _++_, append-assoc, append-nil}
-use Prim.Native.Nat.{ℕ, zero, suc, _+_, _-_, _*_, _≤_, _<_}
+use Prim.Native.Nat.{ℕ, suc, _+_, _-_, _≤_, _<_}
 use native.Mathlib.Omega.{arith}
-use lib.ListN.{length, getD, take, drop, length-append}
+use lib.ListN.{length, getD, take}
 use lib.Seq.{take-suc, take-all, length-take-le}
-use Rattle.pkg_length.specs.Refusal.{Answer, gives, refuses, andThen, pick}
+use Rattle.pkg_length.specs.Refusal.{Answer, gives, refuses, andThen}
 use Rattle.name_object.specs.Component.{Component, root, up, seg, segOk, fine}
 use Rattle.name_object.proofs.Paths.{both}
 use Rattle.path.specs.Normal.{step, walk, upright, limited, normal, absolute, isNormal, resolved, top, parentOf}
@@ -184,7 +184,7 @@ unfolding resolved
 resolved-kept limit cs scope ds f g h = go (absolute scope) (absolute cs) refl refl h
   where
     go : (t u : Bool) → absolute scope ≡ t → absolute cs ≡ u →
-        pick t (pick u (normal limit cs) (normal limit (scope ++ cs))) (refuses 11 0) ≡ gives ds → Kept limit ds
+        cond t (cond u (normal limit cs) (normal limit (scope ++ cs))) (refuses 11 0) ≡ gives ds → Kept limit ds
     go false u p q h = clash h
     go true true p q h = normal-kept limit cs ds f q h
     go true false p q h = normal-kept limit (scope ++ cs) ds (fine-append true scope cs g (fine-joined false cs q f) f) (first-append scope cs p) h
@@ -201,7 +201,7 @@ parent-less limit cs ds h = go (normal limit cs) refl h
     less : (ns : List Component) → top ns ≡ false → take (length ns - 1) ns ≡ ds → (length ds ≡ length ns - 1) × (0 < length ns)
     less ns t e = let l = top-some ns t in (sym (ap length e) ∙ length-take-le (length ns - 1) ns (omega arith), l)
 
-    go₂ : (ns : List Component) (t : Bool) → top ns ≡ t → pick t (refuses 12 0) (gives (take (length ns - 1) ns)) ≡ gives ds →
+    go₂ : (ns : List Component) (t : Bool) → top ns ≡ t → cond t (refuses 12 0) (gives (take (length ns - 1) ns)) ≡ gives ds →
         (x : List Component) × (gives ns ≡ gives x) × (x ≡ ds ++ (getD x (length ds) up ∷ [])) × (length x ≡ suc (length ds))
     go₂ ns true t h = clash h
     go₂ ns false t h =
@@ -209,7 +209,7 @@ parent-less limit cs ds h = go (normal limit cs) refl h
         let l = less ns t e in
         (ns, refl, rw (l .0) (rw (sym e) (last ns (length ns - 1) (omega arith))), omega arith)
 
-    go : (a : Answer (List Component)) → normal limit cs ≡ a → andThen a (λ ns. pick (top ns) (refuses 12 0) (gives (take (length ns - 1) ns))) ≡ gives ds →
+    go : (a : Answer (List Component)) → normal limit cs ≡ a → andThen a (λ ns. cond (top ns) (refuses 12 0) (gives (take (length ns - 1) ns))) ≡ gives ds →
         (ns : List Component) × (a ≡ gives ns) × (ns ≡ ds ++ (getD ns (length ds) up ∷ [])) × (length ns ≡ suc (length ds))
     go (gives ns) e h = go₂ ns (top ns) refl h
     go (refuses n p) e h = clash h

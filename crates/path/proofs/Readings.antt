@@ -1,15 +1,14 @@
 -- A reader of text in memory: a law for each way that a byte is taken, and how parts and a whole text end.
 use mathlib.Core.Path.{_≡_, refl, sym, _∙_, ap, subst}
-use mathlib.Core.Bool.{Bool, true, false}
+use mathlib.Core.Bool.{Bool, true, false, cond}
 use mathlib.Core.List.{List, [], _∷_, _++_, append-assoc}
-use Prim.Native.Nat.{ℕ, zero, suc, _+_, _-_, _*_, _≤_, _<_}
+use Prim.Native.Nat.{ℕ, suc, _+_, _-_, _≤_, _<_}
 use native.Mathlib.Omega.{arith}
-use lib.Dec.{eqb, ltb}
 use lib.ListN.{length, getD, set, drop, length-append, drop-of-length-le}
 use lib.Seq.{drop-cons}
 use borrow.Author.Tests.{eq-eqb, ne-eqb, lt-ltb, le-ltb}
-use Rattle.pkg_length.specs.Refusal.{Answer, gives, refuses, andThen, pick}
-use Rattle.name_object.specs.Component.{Component, root, up, seg, leadOk, charOk, spellOne, componentLimit}
+use Rattle.pkg_length.specs.Refusal.{Answer, gives, refuses, andThen}
+use Rattle.name_object.specs.Component.{Component, root, up, leadOk, charOk, spellOne, componentLimit}
 use Rattle.name_object.specs.Memory.{zeros}
 use Rattle.path.specs.Normal.{limited}
 use Rattle.path.specs.Text.{Place, before, inside, padded, consed, reading, afterRoot, textPath, fromText}
@@ -56,7 +55,7 @@ module _ (i b : ℕ) (s : List ℕ) where
   unfolding reading
   read-fifth q bs n l = rw (ne-eqb b 0x2E n, le-ltb (length bs) 4 l) (go (charOk b))
     where
-      go : (t : Bool) → _≡_ {A = Answer (List Component)} (pick t (refuses 8 q) (refuses 8 q)) (refuses 8 q)
+      go : (t : Bool) → _≡_ {A = Answer (List Component)} (cond t (refuses 8 q) (refuses 8 q)) (refuses 8 q)
       go true = refl
       go false = refl
 

@@ -1,14 +1,13 @@
 -- Components in the making, in memory: a `put` adds one, takes the last away, or changes a character of it. Above the limit memory does not change.
 use mathlib.Core.Path.{_≡_, refl, sym, _∙_, ap}
-use mathlib.Core.Bool.{Bool, true, false}
+use mathlib.Core.Bool.{Bool, true, false, cond}
 use mathlib.Core.List.{List, [], _∷_, _++_, append-assoc}
 use Prim.Native.Nat.{ℕ, zero, suc, _+_, _-_, _*_, _≤_, _<_}
 use native.Mathlib.Omega.{arith}
 use lib.Dec.{ltb}
-use lib.ListN.{length, getD, take, set, length-append}
+use lib.ListN.{length, getD, set, length-append}
 use lib.Seq.{take-all, take-append-le, getD-append-seam}
 use borrow.Author.Tests.{ltb-true, ltb-false}
-use Rattle.pkg_length.specs.Refusal.{pick}
 use Rattle.name_object.specs.Component.{Component, up, spellOne, spell}
 use Rattle.name_object.specs.Memory.{nameOf, zeros, put4, pushed, popped}
 use Rattle.name_object.specs.declared.AmlName.{AmlName}
@@ -51,7 +50,7 @@ module _ (limit : ℕ) (cs : List Component) (x : Component) where
   unfolding placed
   shown-push a b c d e = go (ltb (length cs) limit) refl
     where
-      go : (t : Bool) → ltb (length cs) limit ≡ t → pick t (put4 (shown limit cs) (4 * length cs) a b c d) (shown limit cs) ≡ shown limit (cs ++ (x ∷ []))
+      go : (t : Bool) → ltb (length cs) limit ≡ t → cond t (put4 (shown limit cs) (4 * length cs) a b c d) (shown limit cs) ≡ shown limit (cs ++ (x ∷ []))
       go true t = push-in a b c d e (ltb-true (length cs) limit t)
       go false t = sym (shown-more limit cs x (ltb-false (length cs) limit t))
 
@@ -60,7 +59,7 @@ module _ (limit : ℕ) (cs : List Component) (x : Component) where
   unfolding placed
   shown-pop a b c d e = go (ltb (length cs) limit) refl
     where
-      go : (t : Bool) → ltb (length cs) limit ≡ t → pick t (put4 (shown limit (cs ++ (x ∷ []))) (4 * length cs) 0 0 0 0) (shown limit (cs ++ (x ∷ []))) ≡ shown limit cs
+      go : (t : Bool) → ltb (length cs) limit ≡ t → cond t (put4 (shown limit (cs ++ (x ∷ []))) (4 * length cs) 0 0 0 0) (shown limit (cs ++ (x ∷ []))) ≡ shown limit cs
       go true t = pop-in a b c d e (ltb-true (length cs) limit t)
       go false t = shown-more limit cs x (ltb-false (length cs) limit t)
 
@@ -106,7 +105,7 @@ module _ (limit : ℕ) (cs : List Component) (x y : Component) (j b : ℕ) where
   unfolding placedChar
   shown-char g e = go (ltb (length cs) limit) refl
     where
-      go : (t : Bool) → ltb (length cs) limit ≡ t → pick t (set (shown limit (cs ++ (x ∷ []))) (4 * length cs + j) b) (shown limit (cs ++ (x ∷ []))) ≡ shown limit (cs ++ (y ∷ []))
+      go : (t : Bool) → ltb (length cs) limit ≡ t → cond t (set (shown limit (cs ++ (x ∷ []))) (4 * length cs + j) b) (shown limit (cs ++ (x ∷ []))) ≡ shown limit (cs ++ (y ∷ []))
       go true t = char-in g e (ltb-true (length cs) limit t)
       go false t = let l = ltb-false (length cs) limit t in shown-more limit cs x l ∙ sym (shown-more limit cs y l)
 

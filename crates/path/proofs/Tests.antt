@@ -1,14 +1,13 @@
 -- The turns of the test of 26.
-use mathlib.Core.Path.{_≡_, refl, sym, _∙_, ap}
-use mathlib.Core.Bool.{Bool, true, false}
-use mathlib.Core.List.{List, [], _∷_}
-use Prim.Native.Nat.{ℕ, zero, suc, _+_, _-_, _*_, _≤_, _<_}
+use mathlib.Core.Path.{_≡_, refl}
+use mathlib.Core.Bool.{Bool, true, false, cond}
+use mathlib.Core.List.{List}
+use Prim.Native.Nat.{ℕ, suc, _+_, _-_, _*_, _≤_, _<_}
 use native.Mathlib.Omega.{arith}
 use lib.Dec.{eqb}
-use lib.ListN.{length, getD, drop, drop-of-length-le}
-use lib.Seq.{drop-cons, drop-drop, getD-drop}
-use borrow.Author.Tests.{eq-eqb, ne-eqb, le-leb, lt-leb}
-use Rattle.pkg_length.specs.Refusal.{pick}
+use lib.ListN.{getD, drop}
+use lib.Seq.{drop-drop, getD-drop}
+use borrow.Author.Tests.{ne-eqb, le-leb, lt-leb}
 use Rattle.name_object.specs.Memory.{allZero, kindOk, bytesOk, pathOk}
 use Rattle.name_object.specs.declared.AmlName.{AmlName}
 
@@ -17,7 +16,7 @@ kindAt : Bool → List ℕ → ℕ → Bool
 kindAt first bs at = kindOk first (getD bs at 0) (getD bs (at + 1) 0) (getD bs (at + 2) 0) (getD bs (at + 3) 0)
 
 bytes-cons : (first : Bool) (n at : ℕ) (bs : List ℕ) →
-    bytesOk first (suc n) (drop at bs) ≡ pick (kindAt first bs at) (bytesOk false n (drop (at + 4) bs)) false
+    bytesOk first (suc n) (drop at bs) ≡ cond (kindAt first bs at) (bytesOk false n (drop (at + 4) bs)) false
 unfolding bytesOk kindAt
 bytes-cons first n at bs =
     let z : at + 0 ≡ at = omega arith in

@@ -1,19 +1,19 @@
 -- Text reading and the grammar agree: reading accepts exactly the texts of the grammar, one text has one path, and what is written is read back.
 -- A reader inside a segment has read `bs` of it, so that `bs` and the rest are parts; each turn of the reader is a step of a derivation.
 use mathlib.Core.Path.{_≡_, refl, sym, _∙_, ap, subst}
-use mathlib.Core.Bool.{Bool, true, false}
+use mathlib.Core.Bool.{Bool, true, false, cond}
 use mathlib.Core.List.{List, [], _∷_, _++_, append-assoc, append-nil}
-use Prim.Native.Nat.{ℕ, zero, suc, _+_, _-_, _*_, _≤_, _<_, max}
+use Prim.Native.Nat.{ℕ, suc, _≤_, _<_}
 use native.Mathlib.Omega.{arith}
-use lib.Dec.{eqb, leb, ltb}
+use lib.Dec.{eqb, ltb}
 use lib.ListN.{length, getD, length-append}
-use borrow.Author.Tests.{eq-eqb, ne-eqb, eqb-true, lt-ltb, ltb-true}
-use Rattle.pkg_length.specs.Refusal.{Answer, gives, refuses, andThen, pick}
+use borrow.Author.Tests.{ne-eqb, eqb-true, ltb-true}
+use Rattle.pkg_length.specs.Refusal.{Answer, gives, refuses, andThen}
 use Rattle.name_object.specs.Component.{Component, root, up, seg, leadOk, digitOk, charOk}
 use Rattle.path.specs.Normal.{limited}
 use Rattle.path.specs.Text.{Place, before, inside, padded, consed, reading, afterRoot, textPath, fromText, textOf}
 use Rattle.path.specs.TextGrammar.{Word, one, two, three, four, Part, word, above, Parts, last, more, Text, bare, rooted, plain}
-use Rattle.path.proofs.Basics.{wrong, never, clash, same-given}
+use Rattle.path.proofs.Basics.{wrong, clash, same-given}
 use Rattle.path.proofs.Walks.{limited-given, limited-in, limited-over}
 use Rattle.path.proofs.Climbs.{lead-not, lead-5C, lead-5E}
 use Rattle.path.proofs.Readings.{read-up, read-lead, read-dot, read-char}
@@ -78,7 +78,7 @@ parts-sound (b ∷ s) before p cs h = go (parts-sound s before (suc p)) (parts-s
     go : ((ds : List Component) → reading before (suc p) s ≡ gives ds → Parts ds s) →
         (reading (inside p (b ∷ [])) (suc p) s ≡ gives cs → Begun (b ∷ []) → Parts cs ((b ∷ []) ++ s)) →
         (t u : Bool) → eqb b 0x5E ≡ t → leadOk b ≡ u →
-        pick t (consed up (reading before (suc p) s)) (pick u (reading (inside p (b ∷ [])) (suc p) s) (refuses 8 p)) ≡ gives cs → Parts cs (b ∷ s)
+        cond t (consed up (reading before (suc p) s)) (cond u (reading (inside p (b ∷ [])) (suc p) s) (refuses 8 p)) ≡ gives cs → Parts cs (b ∷ s)
     go k l true u e f h =
         let v = consed-given up (reading before (suc p) s) cs h in
         subst (λ (x : List Component). Parts x (b ∷ s)) (v .2) (subst (λ (n : ℕ). Parts (up ∷ v .0) (n ∷ s)) (sym (eqb-true b 0x5E e)) (parts-above (k (v .0) (v .1))))
@@ -90,7 +90,7 @@ parts-sound (b ∷ s) (inside q bs) p cs h = λ g.
     go : Begun bs → ((ds : List Component) → reading before (suc p) s ≡ gives ds → Parts ds s) →
         (reading (inside q (bs ++ (b ∷ []))) (suc p) s ≡ gives cs → Begun (bs ++ (b ∷ [])) → Parts cs ((bs ++ (b ∷ [])) ++ s)) →
         (t u v : Bool) → eqb b 0x2E ≡ t → charOk b ≡ u → ltb (length bs) 4 ≡ v →
-        pick t (consed (padded bs) (reading before (suc p) s)) (pick u (pick v (reading (inside q (bs ++ (b ∷ []))) (suc p) s) (refuses 8 q)) (refuses 8 q)) ≡ gives cs →
+        cond t (consed (padded bs) (reading before (suc p) s)) (cond u (cond v (reading (inside q (bs ++ (b ∷ []))) (suc p) s) (refuses 8 q)) (refuses 8 q)) ≡ gives cs →
         Parts cs (bs ++ b ∷ s)
     go g k l true u v e f i h =
         let w = consed-given (padded bs) (reading before (suc p) s) cs h in
@@ -205,7 +205,7 @@ unfolding textPath Reads
 path-sound [] cs h = clash h
 path-sound (b ∷ s) cs h = go (eqb b 0x5C) refl h
   where
-    go : (t : Bool) → eqb b 0x5C ≡ t → pick t (afterRoot s) (reading before 0 (b ∷ s)) ≡ gives cs → Text cs (b ∷ s)
+    go : (t : Bool) → eqb b 0x5C ≡ t → cond t (afterRoot s) (reading before 0 (b ∷ s)) ≡ gives cs → Text cs (b ∷ s)
     go false e h = plain (parts-sound (b ∷ s) before 0 cs h)
     go true e h = subst (λ (n : ℕ). Text cs (n ∷ s)) (sym (eqb-true b 0x5C e)) (path-sound-rooted s cs h)
 

@@ -1,13 +1,13 @@
 -- A walk over components: what stands stays good, so that what is given is a path again, fine and within the limit.
 use mathlib.Core.Path.{_≡_, refl, sym, _∙_, ap}
-use mathlib.Core.Bool.{Bool, true, false}
+use mathlib.Core.Bool.{Bool, true, false, cond}
 use mathlib.Core.List.{List, [], _∷_, _++_}
-use Prim.Native.Nat.{ℕ, zero, suc, _+_, _-_, _*_, _≤_, _<_}
+use Prim.Native.Nat.{ℕ, _+_, _-_, _*_, _≤_, _<_}
 use native.Mathlib.Omega.{arith}
-use lib.Dec.{eqb, leb}
-use lib.ListN.{length, getD, take, drop, length-append}
+use lib.Dec.{leb}
+use lib.ListN.{length, getD, length-append}
 use borrow.Author.Tests.{le-leb, lt-leb, leb-true}
-use Rattle.pkg_length.specs.Refusal.{Answer, gives, refuses, andThen, pick}
+use Rattle.pkg_length.specs.Refusal.{Answer, gives, refuses, andThen}
 use Rattle.name_object.specs.Component.{Component, root, up, seg, segOk, fine, spellOne, spell, componentLimit}
 use Rattle.name_object.specs.Memory.{nameOf, zeros, pathOk, pathOf}
 use Rattle.name_object.specs.declared.AmlName.{AmlName}
@@ -130,7 +130,7 @@ pub limited-given : (limit : ℕ) (cs ds : List Component) → limited limit cs 
 unfolding limited
 limited-given limit cs ds h = go (leb (length cs) limit) refl h
   where
-    go : (t : Bool) → leb (length cs) limit ≡ t → pick t (gives cs) (refuses 9 0) ≡ gives ds → (cs ≡ ds) × (length cs ≤ limit)
+    go : (t : Bool) → leb (length cs) limit ≡ t → cond t (gives cs) (refuses 9 0) ≡ gives ds → (cs ≡ ds) × (length cs ≤ limit)
     go true e h = (same-given h, leb-true (length cs) limit e)
     go false e h = clash h
 

@@ -1,21 +1,21 @@
 -- Text in lent bytes: component by component, each behind what was written before it.
 use mathlib.Core.Path.{_≡_, refl, sym, _∙_, ap}
-use mathlib.Core.Bool.{Bool, true, false}
+use mathlib.Core.Bool.{Bool, true, false, cond}
 use mathlib.Core.List.{List, [], _∷_, _++_, append-assoc, append-nil}
-use Prim.Native.Nat.{ℕ, zero, suc, _+_, _-_, _*_, _≤_, _<_}
+use Prim.Native.Nat.{ℕ, suc, _+_, _-_, _*_, _≤_, _<_}
 use native.Mathlib.Omega.{arith}
 use lib.Dec.{eqb, ltb, leb}
 use lib.ListN.{length, getD, set, take, drop, length-append, length-drop, drop-of-length-le}
 use lib.Seq.{drop-cons, sets, sets-eq, take-at, drop-append-add, drop-drop}
 use borrow.Author.Tests.{eq-eqb, ne-eqb, lt-ltb, le-ltb, le-leb, lt-leb, ltb-true, ltb-false}
-use Rattle.pkg_length.specs.Refusal.{Answer, gives, refuses, andThen, pick}
-use Rattle.name_object.specs.Component.{Component, root, up, seg, leadOk, segOk, fine, spellOne, componentLimit}
+use Rattle.pkg_length.specs.Refusal.{Answer, gives, refuses, andThen}
+use Rattle.name_object.specs.Component.{Component, root, up, seg, leadOk, fine, spellOne, componentLimit}
 use Rattle.name_object.specs.Memory.{pathOk, pathOf, pathIn}
 use Rattle.name_object.specs.declared.AmlName.{AmlName}
 use Rattle.name_object.proofs.Paths.{path-fine}
 use Rattle.path.specs.Text.{textOf, textWithin, Wrote, wrote}
 use Rattle.path.specs.Inside.{piece, pieceLength}
-use Rattle.path.proofs.Basics.{path-good, path-bad}
+use Rattle.path.proofs.Basics.{path-good}
 use Rattle.path.proofs.Walks.{seg-of, path-byte, length-path}
 use Rattle.path.proofs.Climbs.{lead-5C, lead-5E, seg-lead, lead-not}
 use Rattle.path.proofs.Flags.{fine-at}
@@ -24,7 +24,7 @@ use Rattle.path.proofs.Flags.{fine-at}
 pieceOf : Bool → Component → List ℕ
 pieceOf more root = 0x5C ∷ []
 pieceOf more up = 0x5E ∷ []
-pieceOf more (seg a b c d) = a ∷ b ∷ c ∷ d ∷ pick more (0x2E ∷ []) []
+pieceOf more (seg a b c d) = a ∷ b ∷ c ∷ d ∷ cond more (0x2E ∷ []) []
 
 piece-seg : (more : Bool) (a b c d : ℕ) → leadOk a ≡ true → piece more a b c d ≡ pieceOf more (seg a b c d)
 unfolding piece pieceOf
@@ -52,7 +52,7 @@ pub piece-length : (more : Bool) (a b c d : ℕ) → length (piece more a b c d)
 unfolding piece pieceLength
 piece-length more a b c d = go (eqb a 0x5C) (eqb a 0x5E) more
   where
-    go : (s t m : Bool) → length (pick s (a ∷ []) (pick t (a ∷ []) (a ∷ b ∷ c ∷ d ∷ pick m (0x2E ∷ []) []))) ≡ pick s 1 (pick t 1 (pick m 5 4))
+    go : (s t m : Bool) → length (cond s (a ∷ []) (cond t (a ∷ []) (a ∷ b ∷ c ∷ d ∷ cond m (0x2E ∷ []) []))) ≡ cond s 1 (cond t 1 (cond m 5 4))
     go true t m = refl
     go false true m = refl
     go false false true = refl
@@ -80,7 +80,7 @@ pub piece-some : (more : Bool) (a : ℕ) → 1 ≤ pieceLength more a
 unfolding pieceLength
 piece-some more a = go (eqb a 0x5C) (eqb a 0x5E) more
   where
-    go : (s t m : Bool) → 1 ≤ pick s 1 (pick t 1 (pick m 5 4))
+    go : (s t m : Bool) → 1 ≤ cond s 1 (cond t 1 (cond m 5 4))
     go true t m = omega arith
     go false true m = omega arith
     go false false true = omega arith
@@ -237,14 +237,14 @@ module _ (limit room : ℕ) (name : AmlName) where
   pub text-fits : pathOk limit name ≡ true → length (textOf (pathOf name)) ≤ room → gives (textOf (pathOf name)) ≡ andThen (pathIn limit name) (textWithin room)
   unfolding textWithin
   text-fits h l =
-      ap (λ (t : Bool). pick t (gives (textOf (pathOf name))) (refuses 25 0)) (sym (le-leb (length (textOf (pathOf name))) room l))
-      ∙ path-good limit name (λ cs. pick (leb (length (textOf cs)) room) (gives (textOf cs)) (refuses 25 0)) h
+      ap (λ (t : Bool). cond t (gives (textOf (pathOf name))) (refuses 25 0)) (sym (le-leb (length (textOf (pathOf name))) room l))
+      ∙ path-good limit name (λ cs. cond (leb (length (textOf cs)) room) (gives (textOf cs)) (refuses 25 0)) h
 
   pub text-over : pathOk limit name ≡ true → room < length (textOf (pathOf name)) → refuses 25 0 ≡ andThen (pathIn limit name) (textWithin room)
   unfolding textWithin
   text-over h l =
-      ap (λ (t : Bool). pick t (gives (textOf (pathOf name))) (refuses 25 0)) (sym (lt-leb (length (textOf (pathOf name))) room l))
-      ∙ path-good limit name (λ cs. pick (leb (length (textOf cs)) room) (gives (textOf cs)) (refuses 25 0)) h
+      ap (λ (t : Bool). cond t (gives (textOf (pathOf name))) (refuses 25 0)) (sym (lt-leb (length (textOf (pathOf name))) room l))
+      ∙ path-good limit name (λ cs. cond (leb (length (textOf cs)) room) (gives (textOf cs)) (refuses 25 0)) h
 
 pub wrote-as : (out : List ℕ) {a b : Answer (List ℕ)} {w : Wrote} → a ≡ b → w ≡ wrote out a → w ≡ wrote out b
 wrote-as out e h = h ∙ ap (wrote out) e

@@ -1,11 +1,11 @@
 -- What the functions inside promise one another. No public contract rests on these.
 use Prim.Native.Nat.{ℕ, suc, _+_, _-_, _*_, _≤_, _<_}
 use mathlib.Core.Path.{_≡_}
-use mathlib.Core.Bool.{Bool, true, false}
+use mathlib.Core.Bool.{Bool, true, false, cond}
 use mathlib.Core.List.{List, [], _∷_, _++_}
 use lib.Dec.{ltb, eqb}
-use lib.ListN.{length, take, getD, set}
-use Rattle.pkg_length.specs.Refusal.{Answer, gives, refuses, pick}
+use lib.ListN.{length, take, set}
+use Rattle.pkg_length.specs.Refusal.{Answer, gives, refuses}
 use Rattle.name_object.specs.Component.{Component, root, up, seg, segOk, fine, spellOne, componentLimit}
 use Rattle.name_object.specs.Memory.{nameOf, put4, pathOk, pathOf}
 use Rattle.name_object.specs.declared.AmlName.{AmlName}
@@ -26,10 +26,10 @@ shown limit cs = nameOf limit (take limit cs) .bytes
 
 -- the bytes of component k, written where there is room for it
 unfoldable pub placed : ℕ → List ℕ → ℕ → ℕ → ℕ → ℕ → ℕ → List ℕ
-placed limit bytes k a b c d = pick (ltb k limit) (put4 bytes (4 * k) a b c d) bytes
+placed limit bytes k a b c d = cond (ltb k limit) (put4 bytes (4 * k) a b c d) bytes
 
 unfoldable pub placedChar : ℕ → List ℕ → ℕ → ℕ → ℕ → List ℕ
-placedChar limit bytes k j b = pick (ltb k limit) (set bytes (4 * k + j) b) bytes
+placedChar limit bytes k j b = cond (ltb k limit) (set bytes (4 * k + j) b) bytes
 
 -- components that stand, the last one first: segments, and below them at most a root
 unfoldable pub standing : List Component → Bool
@@ -37,7 +37,7 @@ standing [] = true
 standing (root ∷ []) = true
 standing (root ∷ x ∷ cs) = false
 standing (up ∷ cs) = false
-standing (seg a b c d ∷ cs) = pick (segOk a b c d) (standing cs) false
+standing (seg a b c d ∷ cs) = cond (segOk a b c d) (standing cs) false
 
 -- a segment stands last
 abbrev pub segmentLast : List Component → Bool
@@ -127,9 +127,9 @@ Ended out (PartsEnd.Wrong p) whole = whole ≡ refuses 8 p
 -- the text of a component, by its bytes: `more` where another component follows
 unfoldable pub piece : Bool → ℕ → ℕ → ℕ → ℕ → List ℕ
 piece more a b c d =
-    pick (eqb a 0x5C) (a ∷ [])
-    (pick (eqb a 0x5E) (a ∷ [])
-    (a ∷ b ∷ c ∷ d ∷ pick more (0x2E ∷ []) []))
+    cond (eqb a 0x5C) (a ∷ [])
+    (cond (eqb a 0x5E) (a ∷ [])
+    (a ∷ b ∷ c ∷ d ∷ cond more (0x2E ∷ []) []))
 
 unfoldable pub pieceLength : Bool → ℕ → ℕ
-pieceLength more a = pick (eqb a 0x5C) 1 (pick (eqb a 0x5E) 1 (pick more 5 4))
+pieceLength more a = cond (eqb a 0x5C) 1 (cond (eqb a 0x5E) 1 (cond more 5 4))

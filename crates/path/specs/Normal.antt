@@ -1,13 +1,12 @@
 -- Normalising, resolving and the parent, over the components of a path; and what the code's answers say.
 use Prim.Native.Nat.{ℕ, _-_}
-use mathlib.Core.Bool.{Bool, true, false}
+use mathlib.Core.Bool.{Bool, true, false, cond}
 use mathlib.Core.List.{List, [], _∷_, _++_}
-use lib.Dec.{leb, eqb}
+use lib.Dec.{leb}
 use lib.ListN.{length, take, getD}
-use Rattle.pkg_length.specs.Refusal.{Answer, gives, refuses, refused, andThen, pick}
+use Rattle.pkg_length.specs.Refusal.{Answer, gives, refuses, refused, andThen}
 use Rattle.name_object.specs.Component.{Component, root, up, seg, segOk}
-use Rattle.name_object.specs.Memory.{Named, Told, pathIn}
-use Rattle.name_object.specs.declared.AmlName.{AmlName}
+use Rattle.name_object.specs.Memory.{Named, Told}
 use Rattle.path.specs.declared.PathSaid.{PathSaid}
 use Rattle.path.specs.declared.PathAnswer.{PathAnswer}
 use Rattle.path.specs.declared.FlagAnswer.{FlagAnswer}
@@ -34,7 +33,7 @@ upright (x ∷ done) = upright done ++ (x ∷ [])
 
 -- a result over `limit` components: 9
 unfoldable pub limited : ℕ → List Component → Answer (List Component)
-limited limit cs = pick (leb (length cs) limit) (gives cs) (refuses 9 0)
+limited limit cs = cond (leb (length cs) limit) (gives cs) (refuses 9 0)
 
 -- the normal form; only what it ends with is held to the limit
 unfoldable pub normal : ℕ → List Component → Answer (List Component)
@@ -64,7 +63,7 @@ oneSegment (seg a b c d ∷ x ∷ cs) = false
 
 -- an absolute scope, else 11; an absolute path alone, else joined to the scope
 unfoldable pub resolved : ℕ → List Component → List Component → Answer (List Component)
-resolved limit cs scope = pick (absolute scope) (pick (absolute cs) (normal limit cs) (normal limit (scope ++ cs))) (refuses 11 0)
+resolved limit cs scope = cond (absolute scope) (cond (absolute cs) (normal limit cs) (normal limit (scope ++ cs))) (refuses 11 0)
 
 -- `\` or empty
 abbrev pub top : List Component → Bool
@@ -76,12 +75,12 @@ top (seg a b c d ∷ cs) = false
 
 -- the normal form without its last segment, 12 where there is none
 unfoldable pub parentOf : ℕ → List Component → Answer (List Component)
-parentOf limit cs = andThen (normal limit cs) (λ ns. pick (top ns) (refuses 12 0) (gives (take (length ns - 1) ns)))
+parentOf limit cs = andThen (normal limit cs) (λ ns. cond (top ns) (refuses 12 0) (gives (take (length ns - 1) ns)))
 
 -- four bytes as a path of one segment, 26 where they are none
 unfoldable pub segmentPath : List ℕ → Answer (List Component)
 segmentPath bs =
-    pick (segOk (getD bs 0 0) (getD bs 1 0) (getD bs 2 0) (getD bs 3 0))
+    cond (segOk (getD bs 0 0) (getD bs 1 0) (getD bs 2 0) (getD bs 3 0))
     (gives (seg (getD bs 0 0) (getD bs 1 0) (getD bs 2 0) (getD bs 3 0) ∷ []))
     (refuses 26 0)
 

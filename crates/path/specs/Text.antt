@@ -1,10 +1,10 @@
 -- Paths as text: reading as `from_str`, writing as `as_string`.
 use Prim.Native.Nat.{ℕ, suc}
-use mathlib.Core.Bool.{Bool, true, false}
+use mathlib.Core.Bool.{cond}
 use mathlib.Core.List.{List, [], _∷_, _++_}
 use lib.Dec.{leb, ltb, eqb}
 use lib.ListN.{length, getD, drop}
-use Rattle.pkg_length.specs.Refusal.{Answer, gives, refuses, refused, andThen, pick}
+use Rattle.pkg_length.specs.Refusal.{Answer, gives, refuses, refused, andThen}
 use Rattle.name_object.specs.Component.{Component, root, up, seg, leadOk, charOk}
 use Rattle.path.specs.Normal.{limited}
 use Rattle.path.specs.declared.TextAnswer.{TextAnswer}
@@ -27,13 +27,13 @@ consed c (refuses n p) = refuses n p
 unfoldable pub reading : Place → ℕ → List ℕ → Answer (List Component)
 reading before p [] = refuses 8 p
 reading before p (b ∷ s) =
-    pick (eqb b 0x5E) (consed up (reading before (suc p) s))
-    (pick (leadOk b) (reading (inside p (b ∷ [])) (suc p) s)
+    cond (eqb b 0x5E) (consed up (reading before (suc p) s))
+    (cond (leadOk b) (reading (inside p (b ∷ [])) (suc p) s)
     (refuses 8 p))
 reading (inside q bs) p [] = gives (padded bs ∷ [])
 reading (inside q bs) p (b ∷ s) =
-    pick (eqb b 0x2E) (consed (padded bs) (reading before (suc p) s))
-    (pick (charOk b) (pick (ltb (length bs) 4) (reading (inside q (bs ++ (b ∷ []))) (suc p) s) (refuses 8 q))
+    cond (eqb b 0x2E) (consed (padded bs) (reading before (suc p) s))
+    (cond (charOk b) (cond (ltb (length bs) 4) (reading (inside q (bs ++ (b ∷ []))) (suc p) s) (refuses 8 q))
     (refuses 8 q))
 
 -- what follows a `\`: nothing, or parts
@@ -44,7 +44,7 @@ afterRoot (b ∷ s) = consed root (reading before 1 (b ∷ s))
 -- by the grammar alone: 7 for empty text; a `\`, alone or before the parts; else the parts
 unfoldable pub textPath : List ℕ → Answer (List Component)
 textPath [] = refuses 7 0
-textPath (b ∷ s) = pick (eqb b 0x5C) (afterRoot s) (reading before 0 (b ∷ s))
+textPath (b ∷ s) = cond (eqb b 0x5C) (afterRoot s) (reading before 0 (b ∷ s))
 
 -- within the limit: grammar faults come first
 unfoldable pub fromText : ℕ → List ℕ → Answer (List Component)
@@ -60,7 +60,7 @@ textOf (seg a b c d ∷ x ∷ cs) = a ∷ b ∷ c ∷ d ∷ 0x2E ∷ textOf (x �
 
 -- the text of a path, 25 where there is no room for it
 unfoldable pub textWithin : ℕ → List Component → Answer (List ℕ)
-textWithin room cs = pick (leb (length (textOf cs)) room) (gives (textOf cs)) (refuses 25 0)
+textWithin room cs = cond (leb (length (textOf cs)) room) (gives (textOf cs)) (refuses 25 0)
 
 -- lent bytes, beside what is said of them
 pub record Wrote : Type 0 where

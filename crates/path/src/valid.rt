@@ -1,10 +1,9 @@
 // The tests of a path, on a count and bytes that are lent.
 ghost use mathlib.Core.Path.{_≡_};
-ghost use mathlib.Core.Bool.{true, false};
+ghost use mathlib.Core.Bool.{true, false, cond};
 ghost use Prim.Native.Nat.{_≤_};
 ghost use lib.Dec.{eqb};
 ghost use lib.ListN.{length, drop};
-ghost use Rattle.pkg_length.specs.Refusal.{pick};
 ghost use Rattle.name_object.specs.Component.{segOk, componentLimit};
 ghost use Rattle.name_object.specs.Memory.{allZero, bare, kindOk, pathOk, pathOf};
 ghost use Rattle.path.specs.Normal.{absolute, isNormal, oneSegment};
@@ -54,7 +53,7 @@ fn is_component(first: bool, a: u8, b: u8, c: u8, d: u8) -> bool
 
 // A spare byte more.
 fn is_clean(clean: bool, b: u8) -> bool
-    ensures { λ r. ⌜ r ≡ pick clean (eqb b 0) false ⌝ }
+    ensures { λ r. ⌜ r ≡ cond clean (eqb b 0) false ⌝ }
 {
     if clean {
         return b == 0;

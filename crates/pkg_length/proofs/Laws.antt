@@ -1,5 +1,5 @@
 -- The number that n bytes spell, at any n: what the turn of a loop over them does, and how large it is.
-use mathlib.Core.Path.{_≡_, refl, sym, _∙_, ap}
+use mathlib.Core.Path.{_≡_, refl, sym}
 use mathlib.Core.List.{List, [], _∷_}
 use Prim.Native.Nat.{ℕ, zero, suc, _+_, _-_, _*_, _^_, _≤_, _<_}
 use native.Mathlib.Nat.{pow-le-pow-right, pow-suc, one-le-pow}

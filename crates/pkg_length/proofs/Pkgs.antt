@@ -1,13 +1,13 @@
 -- What the definitions of package lengths answer at each of their tests, over a list of bytes: one law for each return of the code.
 use mathlib.Core.Path.{_≡_, refl}
 use mathlib.Core.List.{List, [], _∷_}
-use Prim.Native.Nat.{ℕ, suc, _+_, _-_, _*_, _/_, _%_, _≤_, _<_}
+use Prim.Native.Nat.{ℕ, _+_, _-_, _*_, _/_, _%_, _≤_, _<_}
 use native.Mathlib.Omega.{arith}
 use lib.ListN.{length, getD, take, drop}
 use borrow.Author.Tests.{eq-eqb, ne-eqb, le-leb, lt-leb}
-use Rattle.pkg_length.specs.Refusal.{Answer, gives, refuses, andThen, blockLimit}
+use Rattle.pkg_length.specs.Refusal.{gives, refuses, blockLimit}
 use Rattle.pkg_length.specs.Little.{little}
-use Rattle.pkg_length.specs.Pkg.{Raw, Pkg, spelt, rawLength, fromRaw, pkgLength}
+use Rattle.pkg_length.specs.Pkg.{spelt, rawLength, fromRaw, pkgLength}
 use Rattle.pkg_length.specs.declared.PkgLength.{PkgLength}
 
 pub raw-over : (xs : List ℕ) → blockLimit < length xs → refuses 5 0 ≡ rawLength xs

@@ -1,9 +1,10 @@
 -- Package lengths, as document 01 has them.
+use mathlib.Core.Bool.{cond}
 use Prim.Native.Nat.{ℕ, suc, _+_, _-_, _*_, _/_, _%_}
 use mathlib.Core.List.{List, [], _∷_}
 use lib.Dec.{leb, eqb}
 use lib.ListN.{length, take}
-use Rattle.pkg_length.specs.Refusal.{Answer, gives, refuses, andThen, pick, refused, passesPart, blockLimit}
+use Rattle.pkg_length.specs.Refusal.{Answer, gives, refuses, andThen, refused, passesPart, blockLimit}
 use Rattle.pkg_length.specs.Little.{little}
 use Rattle.pkg_length.specs.declared.PkgLength.{PkgLength}
 use Rattle.pkg_length.specs.declared.RawAnswer.{RawAnswer}
@@ -25,19 +26,19 @@ pub record Pkg : Type 0 where
 unfoldable pub spelt : List ℕ → Answer Raw
 spelt [] = refuses 1 0
 spelt (lead ∷ rest) =
-    pick (eqb (lead / 64) 0)
+    cond (eqb (lead / 64) 0)
     (gives (record { raw = lead % 64; used = 1 }))
-    (pick (leb (lead / 64) (length rest))
+    (cond (leb (lead / 64) (length rest))
     (gives (record { raw = lead % 16 + 16 * little (take (lead / 64) rest); used = 1 + lead / 64 }))
     (refuses 1 (suc (length rest))))
 
 -- the bare reader: the limit first
 unfoldable pub rawLength : List ℕ → Answer Raw
-rawLength bytes = pick (leb (length bytes) blockLimit) (spelt bytes) (refuses 5 0)
+rawLength bytes = cond (leb (length bytes) blockLimit) (spelt bytes) (refuses 5 0)
 
 -- a raw length in n bytes: the end offset is n minus it, 2 if negative
 unfoldable pub fromRaw : ℕ → ℕ → Answer PkgLength
-fromRaw n raw = pick (leb raw n) (gives (record { «raw_length» = raw; «end_offset» = n - raw })) (passesPart 0)
+fromRaw n raw = cond (leb raw n) (gives (record { «raw_length» = raw; «end_offset» = n - raw })) (passesPart 0)
 
 -- read, then fitted to the whole input
 unfoldable pub pkgLength : List ℕ → Answer Pkg

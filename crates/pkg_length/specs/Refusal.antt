@@ -1,6 +1,5 @@
 -- What every call answers, and document 01's table of refusals: the number and the place of each case of the code's `AmlError`.
 use Prim.Native.Nat.{ℕ}
-use mathlib.Core.Bool.{Bool, true, false}
 use Rattle.pkg_length.specs.declared.Refusal.{Refusal}
 use Rattle.pkg_length.specs.declared.AmlError.{AmlError}
 use Rattle.pkg_length.specs.declared.AmlError.the-variants.{
@@ -41,11 +40,6 @@ pub data Answer (A : Type 0) : Type 0 where
 abbrev pub andThen : {A B : Type 0} → Answer A → (A → Answer B) → Answer B
 andThen (gives a) next = next a
 andThen (refuses n p) next = refuses n p
-
--- the first where the test is true, else the second
-abbrev pub pick : {A : Type 0} → Bool → A → A → A
-pick true a b = a
-pick false a b = b
 
 -- the table: number and place, 0 where it gives none
 abbrev pub paper : AmlError → Refusal

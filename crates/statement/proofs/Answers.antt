@@ -1,15 +1,15 @@
 -- What an answer that goes on says of its parts.
 use mathlib.Core.Path.{_≡_, refl, subst₂}
-use mathlib.Core.Bool.{Bool, true, false}
+use mathlib.Core.Bool.{Bool, true, false, cond}
 use mathlib.Core.List.{List}
 use Prim.Native.Nat.{ℕ, _≤_, _<_}
 use native.Mathlib.Omega.{arith}
 use lib.ListN.{length, take}
-use Rattle.pkg_length.specs.Refusal.{Answer, gives, refuses, andThen, pick}
+use Rattle.pkg_length.specs.Refusal.{Answer, gives, refuses, andThen}
 use Rattle.statement.specs.Refusal.{Read, read, reads, thenRead}
 
 -- a test by cases
-pub pick-by : {A : Type 0} (P : A → Type 0) (t : Bool) {x y : A} → (t ≡ true → P x) → (t ≡ false → P y) → P (pick t x y)
+pub pick-by : {A : Type 0} (P : A → Type 0) (t : Bool) {x y : A} → (t ≡ true → P x) → (t ≡ false → P y) → P (cond t x y)
 pick-by P true f g = f refl
 pick-by P false f g = g refl
 
@@ -26,7 +26,7 @@ pub and-by : {A B X : Type 0} (r : Answer A) (f : A → Answer B) {b : B} → an
 and-by (gives a) f e g = g a refl e
 and-by (refuses n p) f e g = never e
 
-pub pick-ok : {A : Type 0} (t : Bool) (r : Answer A) (n p : ℕ) {a : A} → pick t r (refuses n p) ≡ gives a → (t ≡ true) × (r ≡ gives a)
+pub pick-ok : {A : Type 0} (t : Bool) (r : Answer A) (n p : ℕ) {a : A} → cond t r (refuses n p) ≡ gives a → (t ≡ true) × (r ≡ gives a)
 pick-ok true r n p e = (refl, e)
 pick-ok false r n p e = never e
 

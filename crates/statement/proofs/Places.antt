@@ -1,12 +1,12 @@
 -- What is read does not depend on the place that it is read at: a run reads at place 0, what the check read where it stands.
 use mathlib.Core.Path.{_≡_, sym, _∙_}
-use mathlib.Core.Bool.{Bool, true, false}
+use mathlib.Core.Bool.{Bool, true, false, cond}
 use mathlib.Core.List.{List, [], _∷_, _++_}
 use Prim.Native.Nat.{ℕ, suc, _+_, _-_}
 use lib.Dec.{leb, eqb}
 use lib.ListN.{length, take, drop, take-append-drop}
 use lib.Seq.{length-take-le}
-use Rattle.pkg_length.specs.Refusal.{Answer, gives, refuses, andThen, pick}
+use Rattle.pkg_length.specs.Refusal.{Answer, gives, refuses, andThen}
 use Rattle.pkg_length.specs.Pkg.{Raw, spelt}
 use Rattle.statement.specs.declared.opcode.Dest.{Dest}
 use Rattle.statement.specs.declared.opcode.Dest.the-variants.{Nowhere, ToCell, ToTarget}
@@ -32,8 +32,8 @@ dest-any ToCell p q s x k e = to-any p q s x k e
 dest-any ToTarget p q [] x k e = never e
 dest-any ToTarget p q (b ∷ s) x k e = go (eqb b 0) e
   where
-    go : (t : Bool) → pick t (reads nowhere 1) (thenRead (readCell p (b ∷ s)) (λ c k. reads (to c) k)) ≡ reads x k →
-        pick t (reads nowhere 1) (thenRead (readCell q (b ∷ s)) (λ c k. reads (to c) k)) ≡ reads x k
+    go : (t : Bool) → cond t (reads nowhere 1) (thenRead (readCell p (b ∷ s)) (λ c k. reads (to c) k)) ≡ reads x k →
+        cond t (reads nowhere 1) (thenRead (readCell q (b ∷ s)) (λ c k. reads (to c) k)) ≡ reads x k
     go true f = f
     go false f = to-any p q (b ∷ s) x k f
 

@@ -1,6 +1,6 @@
 -- Reading at a place of a part, in the code's words: one law for each of its returns.
 use mathlib.Core.Path.{_≡_, refl, sym, ap, subst, _∙_}
-use mathlib.Core.Bool.{Bool, true, false}
+use mathlib.Core.Bool.{Bool, true, false, cond}
 use mathlib.Core.List.{List, [], _∷_}
 use Prim.Native.Nat.{ℕ, zero, suc, _+_, _-_, _*_, _/_, _%_, _≤_, _<_}
 use native.Mathlib.Omega.{arith}
@@ -9,7 +9,7 @@ use lib.Dec.{leb, eqb}
 use lib.ListN.{length, take, drop, getD, length-drop, drop-of-length-le}
 use lib.Seq.{drop-cons, drop-drop, drop-nil, take-all}
 use borrow.Author.Tests.{le-leb, lt-leb, ne-eqb, leb-true, leb-false}
-use Rattle.pkg_length.specs.Refusal.{Answer, gives, refuses, andThen, pick, refused, blockLimit}
+use Rattle.pkg_length.specs.Refusal.{Answer, gives, refuses, andThen, refused, blockLimit}
 use Rattle.pkg_length.specs.Little.{little}
 use Rattle.pkg_length.specs.declared.PkgLength.{PkgLength}
 use Rattle.pkg_length.specs.Pkg.{Raw, Pkg, spelt, rawLength, fromRaw, pkgLength}
@@ -207,7 +207,7 @@ spelt-refuses (lead ∷ rest) n q e =
     (record { raw = lead % 64; used = 1 })
     (record { raw = lead % 16 + 16 * little (take (lead / 64) rest); used = 1 + lead / 64 }) e
   where
-    go : (x y : Bool) (a b : Raw) → pick x (gives a) (pick y (gives b) (refuses 1 (suc (length rest)))) ≡ refuses n q → (n ≡ 1) × (q ≤ suc (length rest))
+    go : (x y : Bool) (a b : Raw) → cond x (gives a) (cond y (gives b) (refuses 1 (suc (length rest)))) ≡ refuses n q → (n ≡ 1) × (q ≤ suc (length rest))
     go true y a b e = absurd (let z : _≡_ {A = ℕ} 0 1 = cc in omega arith)
     go false true a b e = absurd (let z : _≡_ {A = ℕ} 0 1 = cc in omega arith)
     go false false a b e = (let z : 1 ≡ n = cc in sym z, let z : suc (length rest) ≡ q = cc in omega arith)
@@ -218,7 +218,7 @@ module _ (t : List ℕ) where
   pkgOf a = andThen (fromRaw (length t) (a .raw)) (λ l. gives (record { length-read = l; used = a .used }))
 
   abbrev pub ownOf : Raw → Answer Raw
-  ownOf a = andThen (fromRaw (length t) (a .raw)) (λ l. pick (leb (a .used) (a .raw)) (gives a) (refuses 2 0))
+  ownOf a = andThen (fromRaw (length t) (a .raw)) (λ l. cond (leb (a .used) (a .raw)) (gives a) (refuses 2 0))
 
   pkg-is : length t ≤ blockLimit → pkgLength t ≡ andThen (spelt t) pkgOf
   unfolding pkgLength rawLength

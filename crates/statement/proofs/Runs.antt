@@ -1,6 +1,6 @@
 -- What a run answers of an accepted part, in the code's words: one law for each of its returns.
 use mathlib.Core.Path.{_≡_, refl, sym, ap, _∙_}
-use mathlib.Core.Bool.{Bool, true, false}
+use mathlib.Core.Bool.{Bool, true, false, cond}
 use mathlib.Core.List.{List, [], _∷_}
 use Prim.Native.Nat.{ℕ, zero, suc, _+_, _-_, _≤_, _<_}
 use native.Mathlib.Omega.{arith}
@@ -8,7 +8,7 @@ use lib.Dec.{leb, eqb}
 use lib.ListN.{length, take, drop, getD, length-drop, drop-of-length-le}
 use lib.Seq.{drop-drop}
 use borrow.Author.Tests.{eq-eqb, ne-eqb, leb-true}
-use Rattle.pkg_length.specs.Refusal.{Answer, gives, refuses, pick}
+use Rattle.pkg_length.specs.Refusal.{Answer, gives, refuses}
 use Rattle.pkg_length.specs.Pkg.{Raw}
 use Rattle.statement.specs.declared.frame.Frame.{Frame}
 use Rattle.statement.specs.declared.eval.Value.the-variants.{Num, Missing}
@@ -32,7 +32,7 @@ use Rattle.statement.proofs.Evals.{acc-ok, is-acc, acc-then, acc-same, 
 
 -- ## No statement makes units
 
-pick-left : (c : Bool) (A B : Ran) (u : ℕ) → A .left ≤ u → B .left ≤ u → pick c A B .left ≤ u
+pick-left : (c : Bool) (A B : Ran) (u : ℕ) → A .left ≤ u → B .left ≤ u → cond c A B .left ≤ u
 pick-left true A B u h k = h
 pick-left false A B u h k = k
 
@@ -54,11 +54,11 @@ spend-left f (suc u) k h = omega (arith, h u)
 -- a turn that asks for another has used a unit, and none makes units
 module _ (p : Frame → Ev) (body : Frame → ℕ → Ran) (h : (g : Frame) (w : ℕ) → body g w .left ≤ w) where
   tested-left : (v : Ev) (w : ℕ) →
-      turnTest v w (λ n g. pick (eqb n 0) (turned g w (ends (gives finished))) (turned (body g w .frame) (body g w .left) (goOf (body g w .end)))) .left ≤ w
+      turnTest v w (λ n g. cond (eqb n 0) (turned g w (ends (gives finished))) (turned (body g w .frame) (body g w .left) (goOf (body g w .end)))) .left ≤ w
   tested-left (lacks c f) w = omega arith
   tested-left (got n g) w = go (eqb n 0)
     where
-      go : (c : Bool) → pick c (turned g w (ends (gives finished))) (turned (body g w .frame) (body g w .left) (goOf (body g w .end))) .left ≤ w
+      go : (c : Bool) → cond c (turned g w (ends (gives finished))) (turned (body g w .frame) (body g w .left) (goOf (body g w .end))) .left ≤ w
       go true = omega arith
       go false = h g w
 
@@ -89,7 +89,7 @@ mutual
   do-left (plain o) f u = omega arith
   do-left (return t) f u = test-left (eval width t f) u (λ n g. ended g u (gives (returned n))) (λ n g. omega arith)
   do-left (ifElse t xs ys) f u =
-      test-left (eval width t f) u (λ n g. pick (eqb n 0) (doStmts width ys g u) (doStmts width xs g u))
+      test-left (eval width t f) u (λ n g. cond (eqb n 0) (doStmts width ys g u) (doStmts width xs g u))
       (λ n g. pick-left (eqb n 0) (doStmts width ys g u) (doStmts width xs g u) u (list-left ys g u) (list-left xs g u))
   do-left (while t xs) f u = turns-left (eval width t) (λ g w. doStmts width xs g w) (λ g w. list-left xs g w) (suc u) f u
   do-left (expr t) f u = test-left (eval width t f) u (λ n g. ended g u (gives finished)) (λ n g. omega arith)
@@ -247,7 +247,7 @@ module _ (l at : ℕ) (s : List ℕ) (acc : Accepts (readHead (readList l) 0 (dr
     head-open g =
         acc-ok (readHead (readList l) 0 (drop at s)) acc λ h m eh.
         let e₀ : thenRead (readTerm depthLimit (0 + w .used) (drop (w .used) (drop at s))) (λ t k.
-        pick (leb (w .used + k) (w .raw))
+        cond (leb (w .used + k) (w .raw))
         (thenRead (readList l (0 + (w .used + k)) (take (w .raw - (w .used + k)) (drop (w .used + k) (drop at s)))) (λ xs _. reads (head t xs) (w .raw)))
         (refuses 2 0)) ≡ reads h m = rw (← ew) at eh in
         then-by (readTerm depthLimit (0 + w .used) (drop (w .used) (drop at s))) _ e₀ λ t k e₁ f₁.

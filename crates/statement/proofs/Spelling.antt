@@ -1,6 +1,6 @@
 -- A package length is read where, and only where, the grammar spells it.
 use mathlib.Core.Path.{_≡_, refl, sym, ap, subst, _∙_}
-use mathlib.Core.Bool.{Bool, true, false}
+use mathlib.Core.Bool.{Bool, true, false, cond}
 use mathlib.Core.List.{List, [], _∷_, _++_, append-assoc}
 use Prim.Native.Nat.{ℕ, suc, _+_, _-_, _*_, _/_, _%_, _≤_, _<_}
 use native.Mathlib.Omega.{arith}
@@ -8,7 +8,7 @@ use lib.Dec.{leb, eqb}
 use lib.ListN.{length, take, drop, length-append, length-drop}
 use lib.Seq.{length-take-le, take-add, drop-append-seam, take-append-seam}
 use borrow.Author.Tests.{eqb-true, eqb-false, leb-true, le-leb, eq-eqb, ne-eqb}
-use Rattle.pkg_length.specs.Refusal.{Answer, gives, refuses, pick}
+use Rattle.pkg_length.specs.Refusal.{Answer, gives, refuses}
 use Rattle.pkg_length.specs.Little.{little}
 use Rattle.pkg_length.specs.Pkg.{Raw, spelt, fromRaw}
 use Rattle.statement.specs.Grammar.{Spells, spelt-plain, spelt-extra, Package, d-package}
@@ -52,9 +52,9 @@ spelt-sound [] w e = never e
 spelt-sound (lead ∷ rest) w e = go (eqb (lead / 64) 0) refl e
   where
     go : (t : Bool) → eqb (lead / 64) 0 ≡ t →
-        pick t
+        cond t
         (gives (record { raw = lead % 64; used = 1 }))
-        (pick (leb (lead / 64) (length rest))
+        (cond (leb (lead / 64) (length rest))
         (gives (record { raw = lead % 16 + 16 * little (take (lead / 64) rest); used = 1 + lead / 64 }))
         (refuses 1 (suc (length rest)))) ≡ gives w → Spelt (lead ∷ rest) w
     go true q h =

@@ -1,12 +1,11 @@
 -- What the tables say of a byte, from a test that is computed over all rows.
 use mathlib.Core.Path.{_≡_, refl, sym, ap, _∙_}
-use mathlib.Core.Bool.{Bool, true, false}
+use mathlib.Core.Bool.{Bool, true, false, cond}
 use mathlib.Core.List.{List, [], _∷_}
 use Prim.Native.Nat.{ℕ, _+_, _-_, _≤_, _<_}
 use native.Mathlib.Omega.{arith}
 use lib.Dec.{leb, eqb}
 use borrow.Author.Tests.{leb-true, le-leb}
-use Rattle.pkg_length.specs.Refusal.{pick}
 use Rattle.statement.specs.declared.opcode.TermOp.{TermOp}
 use Rattle.statement.specs.declared.opcode.TermOp.the-variants.{Constant, Ones, Bytes, Cell, Step, One, Two, BadTerm}
 use Rattle.statement.specs.Opcode.{isCell, Row, row, look, termRows, termOp}
@@ -16,13 +15,13 @@ use Rattle.statement.proofs.Answers.{pick-by}
 -- the test at each row
 all : {A : Type 0} → (A → Bool) → List (Row A) → Bool
 all P [] = true
-all P (row k a ∷ rows) = pick (P a) (all P rows) false
+all P (row k a ∷ rows) = cond (P a) (all P rows) false
 
-all-head : (a b : Bool) → pick a b false ≡ true → a ≡ true
+all-head : (a b : Bool) → cond a b false ≡ true → a ≡ true
 all-head true b e = refl
 all-head false b e = e
 
-all-tail : (a b : Bool) → pick a b false ≡ true → b ≡ true
+all-tail : (a b : Bool) → cond a b false ≡ true → b ≡ true
 all-tail true b e = e
 all-tail false b e = absurd (let z : _≡_ {A = ℕ} 0 1 = cc in omega arith)
 
@@ -36,7 +35,7 @@ look-all P (row k a ∷ rows) other b h e =
 pub is-cell : (b : ℕ) → isCell b ≡ true → (0x60 ≤ b) × (b ≤ 0x6E)
 is-cell b e = go (leb 0x60 b) (leb b 0x6E) refl refl e
   where
-    go : (x y : Bool) → leb 0x60 b ≡ x → leb b 0x6E ≡ y → pick x y false ≡ true → (0x60 ≤ b) × (b ≤ 0x6E)
+    go : (x y : Bool) → leb 0x60 b ≡ x → leb b 0x6E ≡ y → cond x y false ≡ true → (0x60 ≤ b) × (b ≤ 0x6E)
     go true true e f h = (leb-true _ _ e, leb-true _ _ f)
     go true false e f h = absurd (let z : _≡_ {A = ℕ} 0 1 = cc in omega arith)
     go false y e f h = absurd (let z : _≡_ {A = ℕ} 0 1 = cc in omega arith)
@@ -67,7 +66,7 @@ pub op-cell : (b c : ℕ) → termOp b ≡ Cell c → (isCell b ≡ true) × (c 
 unfolding termOp other-op
 op-cell b c e = go (isCell b) refl e
   where
-    go : (t : Bool) → isCell b ≡ t → pick t (Cell (b - 0x60)) (look termRows BadTerm b) ≡ Cell c → (isCell b ≡ true) × (c ≡ b - 0x60) × (c < cells)
+    go : (t : Bool) → isCell b ≡ t → cond t (Cell (b - 0x60)) (look termRows BadTerm b) ≡ Cell c → (isCell b ≡ true) × (c ≡ b - 0x60) × (c < cells)
     go true q h =
         let e : b - 0x60 ≡ c = cc in
         let r = is-cell b q in
@@ -78,6 +77,6 @@ pub op-bytes : (b n : ℕ) → termOp b ≡ Bytes n → n ≤ 8
 unfolding termOp other-op
 op-bytes b n e = go (isCell b) refl e
   where
-    go : (t : Bool) → isCell b ≡ t → pick t (Cell (b - 0x60)) (look termRows BadTerm b) ≡ Bytes n → n ≤ 8
+    go : (t : Bool) → isCell b ≡ t → cond t (Cell (b - 0x60)) (look termRows BadTerm b) ≡ Bytes n → n ≤ 8
     go true q h = absurd (let z : _≡_ {A = ℕ} 0 1 = cc in omega arith)
     go false q h = leb-true n 8 (sym (ap other-op h) ∙ rows-other b)

@@ -1,6 +1,6 @@
 -- A term is read where, and only where, the grammar derives it: by induction on the depths left.
 use mathlib.Core.Path.{_≡_, refl, ap, subst, subst₂}
-use mathlib.Core.Bool.{Bool, true, false}
+use mathlib.Core.Bool.{Bool, true, false, cond}
 use mathlib.Core.List.{List, [], _∷_, _++_, append-assoc}
 use Prim.Native.Nat.{ℕ, zero, suc, _+_, _-_, _<_}
 use native.Mathlib.Omega.{arith}
@@ -8,7 +8,7 @@ use lib.Dec.{leb, eqb}
 use lib.ListN.{length, take, drop, length-append, length-drop}
 use lib.Seq.{length-take-le, take-add, drop-append-seam, take-append-seam}
 use borrow.Author.Tests.{eqb-true, leb-true, le-leb, ne-eqb}
-use Rattle.pkg_length.specs.Refusal.{Answer, pick}
+use Rattle.pkg_length.specs.Refusal.{Answer}
 use Rattle.pkg_length.specs.Little.{little}
 use Rattle.statement.specs.declared.opcode.Dest.{Dest}
 use Rattle.statement.specs.declared.opcode.Dest.the-variants.{Nowhere, ToCell, ToTarget}
@@ -46,7 +46,7 @@ target-sound : (p : ℕ) (s : List ℕ) (x : Target) (k : ℕ) → readTarget p 
 target-sound p [] x k e = never e
 target-sound p (b ∷ s) x k e = go (eqb b 0) refl e
   where
-    go : (t : Bool) → eqb b 0 ≡ t → pick t (reads nowhere 1) (thenRead (readCell p (b ∷ s)) (λ c k. reads (to c) k)) ≡ reads x k → Follows (DDest ToTarget x) (b ∷ s) k
+    go : (t : Bool) → eqb b 0 ≡ t → cond t (reads nowhere 1) (thenRead (readCell p (b ∷ s)) (λ c k. reads (to c) k)) ≡ reads x k → Follows (DDest ToTarget x) (b ∷ s) k
     go true q f = as-follows (DDest ToTarget) f (record { fits = omega arith; derives = rw (eqb-true b 0 q) d-null })
     go false q f = to-cell ToTarget (λ c w. d-target) p (b ∷ s) x k f
 

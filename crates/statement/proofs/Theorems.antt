@@ -1,7 +1,7 @@
 -- What this layer is for: the check accepts exactly what the grammar derives, a block has one reading, its refusal is the definition's, and its run is
 -- the meaning of its reading.
 use mathlib.Core.Path.{_≡_, refl, sym, ap, subst, _∙_}
-use mathlib.Core.Bool.{Bool, true, false}
+use mathlib.Core.Bool.{Bool, true, false, cond}
 use mathlib.Core.List.{List}
 use Prim.Native.Nat.{ℕ, _-_, _≤_, _<_}
 use native.Mathlib.Omega.{arith}
@@ -9,7 +9,7 @@ use lib.Dec.{leb}
 use lib.ListN.{length}
 use borrow.Author.Tests.{le-leb, lt-leb, leb-true}
 use Rattle.pkg_length.specs.declared.AmlError.{AmlError}
-use Rattle.pkg_length.specs.Refusal.{Answer, gives, refuses, paper, refused, pick, blockLimit}
+use Rattle.pkg_length.specs.Refusal.{Answer, gives, refuses, paper, refused, blockLimit}
 use Rattle.statement.specs.declared.CheckAnswer.{CheckAnswer}
 use Rattle.statement.specs.declared.CheckAnswer.the-variants.{Accepted, Refused}
 use Rattle.statement.specs.declared.End.{End}
@@ -39,7 +39,7 @@ derives-what-reads s t e = go (leb (length s) blockLimit) refl e
     tree (gives (read xs k)) f h = let q : xs ≡ t = cc in subst (λ (x : Stmts). DStmts depthLimit x s) q (lists-sound depthLimit 0 s xs k f)
     tree (refuses n p) f h = never h
 
-    go : (b : Bool) → leb (length s) blockLimit ≡ b → pick b (treeOf (readList depthLimit 0 s)) (refuses 5 0) ≡ gives t → Derives s t
+    go : (b : Bool) → leb (length s) blockLimit ≡ b → cond b (treeOf (readList depthLimit 0 s)) (refuses 5 0) ≡ gives t → Derives s t
     go true q h = record { short = leb-true (length s) blockLimit q; derived = tree (readList depthLimit 0 s) refl h }
     go false q h = never h
 

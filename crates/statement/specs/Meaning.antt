@@ -1,9 +1,9 @@
 -- What a reading means, for any frame and budget: over the tree alone, without the check or the run. w is the width of numbers in bits.
 use Prim.Native.Nat.{ℕ, zero, suc, _+_, _-_, _^_, _%_}
-use mathlib.Core.Bool.{Bool, true, false, not}
+use mathlib.Core.Bool.{Bool, true, false, not, cond}
 use lib.Dec.{ltb, eqb}
 use lib.Bits.{bitAnd}
-use Rattle.pkg_length.specs.Refusal.{Answer, gives, refuses, pick}
+use Rattle.pkg_length.specs.Refusal.{Answer, gives, refuses}
 use Rattle.statement.specs.declared.frame.Frame.{Frame}
 use Rattle.statement.specs.declared.opcode.Plain.{Plain}
 use Rattle.statement.specs.declared.opcode.Plain.the-variants.{Break, Continue, BreakPoint, Noop}
@@ -161,7 +161,7 @@ abbrev pub oneTurn : (Frame → Ev) → (Frame → ℕ → Ran) → Frame → �
 oneTurn p body f zero = turned f 0 (ends (refuses 22 0))
 oneTurn p body f (suc u) =
     turnTest (p f) u (λ n g.
-    pick (eqb n 0) (turned g u (ends (gives finished))) (let r = body g u in turned (r .frame) (r .left) (goOf (r .end))))
+    cond (eqb n 0) (turned g u (ends (gives finished))) (let r = body g u in turned (r .frame) (r .left) (goOf (r .end))))
 
 abbrev pub afterTurn : Frame → ℕ → Go → (Frame → ℕ → Ran) → Ran
 afterTurn f u again next = next f u
@@ -177,7 +177,7 @@ unfoldable mutual
   pub doStmt : ℕ → Stmt → Frame → ℕ → Ran
   doStmt w (plain o) f u = ended f u (gives (plainEnd o))
   doStmt w (return t) f u = test (eval w t f) u (λ n g. ended g u (gives (returned n)))
-  doStmt w (ifElse t xs ys) f u = test (eval w t f) u (λ n g. pick (eqb n 0) (doStmts w ys g u) (doStmts w xs g u))
+  doStmt w (ifElse t xs ys) f u = test (eval w t f) u (λ n g. cond (eqb n 0) (doStmts w ys g u) (doStmts w xs g u))
   doStmt w (while t xs) f u = turns (eval w t) (λ g v. doStmts w xs g v) (suc u) f u
   doStmt w (expr t) f u = test (eval w t f) u (λ n g. ended g u (gives finished))
 

@@ -1,9 +1,8 @@
 -- The opcodes under the Rust's names (opcode.rs), and what each byte starts, as rows of tables: a further operator is a further row.
 use Prim.Native.Nat.{ℕ, _-_}
-use mathlib.Core.Bool.{Bool, true, false}
+use mathlib.Core.Bool.{Bool, true, false, cond}
 use mathlib.Core.List.{List, [], _∷_}
 use lib.Dec.{leb, eqb}
-use Rattle.pkg_length.specs.Refusal.{pick}
 use Rattle.statement.specs.declared.opcode.Plain.the-variants.{Break, Continue, BreakPoint, Noop}
 use Rattle.statement.specs.declared.opcode.StepOp.the-variants.{Increment, Decrement}
 use Rattle.statement.specs.declared.opcode.OneOp.the-variants.{Store, LNot}
@@ -107,7 +106,7 @@ abbrev pub «ARG6_OP» : ℕ
 
 -- 60 to 67 Locals, 68 to 6E Args
 abbrev pub isCell : ℕ → Bool
-isCell b = pick (leb «LOCAL0_OP» b) (leb b «ARG6_OP») false
+isCell b = cond (leb «LOCAL0_OP» b) (leb b «ARG6_OP») false
 
 -- a row: the byte, and what it starts
 pub data Row (A : Type 0) : Type 0 where
@@ -115,7 +114,7 @@ pub data Row (A : Type 0) : Type 0 where
 
 unfoldable pub look : {A : Type 0} → List (Row A) → A → ℕ → A
 look [] other b = other
-look (row k a ∷ rows) other b = pick (eqb b k) a (look rows other b)
+look (row k a ∷ rows) other b = cond (eqb b k) a (look rows other b)
 
 abbrev pub termRows : List (Row TermOp)
 termRows =
@@ -141,7 +140,7 @@ termRows =
 
 -- what a byte starts as a term
 unfoldable pub termOp : ℕ → TermOp
-termOp b = pick (isCell b) (Cell (b - «LOCAL0_OP»)) (look termRows BadTerm b)
+termOp b = cond (isCell b) (Cell (b - «LOCAL0_OP»)) (look termRows BadTerm b)
 
 abbrev pub stmtRows : List (Row StmtOp)
 stmtRows =

@@ -1,11 +1,11 @@
 -- Reading a part from left to right: the tree and how many bytes it took, or the number and the place of the first refusal.
 -- p is the place in the block, s the bytes from there to the end of the part.
 use Prim.Native.Nat.{ℕ, zero, suc, _+_, _-_}
-use mathlib.Core.Bool.{Bool, true, false}
+use mathlib.Core.Bool.{Bool, true, false, cond}
 use mathlib.Core.List.{List, [], _∷_}
 use lib.Dec.{leb, eqb}
 use lib.ListN.{length, take, drop}
-use Rattle.pkg_length.specs.Refusal.{Answer, gives, refuses, andThen, pick, endsEarly, blockLimit}
+use Rattle.pkg_length.specs.Refusal.{Answer, gives, refuses, andThen, endsEarly, blockLimit}
 use Rattle.pkg_length.specs.Little.{little}
 use Rattle.pkg_length.specs.Pkg.{Raw, spelt, fromRaw}
 use Rattle.statement.specs.declared.opcode.OneOp.{OneOp}
@@ -36,16 +36,16 @@ thenRead (refuses n p) next = refuses n p
 
 -- n bytes: 1 at the part's end, if they are not there
 abbrev pub readBytes : ℕ → ℕ → List ℕ → Answer (Read Term)
-readBytes n p s = pick (leb n (length s)) (reads (const (little (take n s))) n) (refuses 1 (p + length s))
+readBytes n p s = cond (leb n (length s)) (reads (const (little (take n s))) n) (refuses 1 (p + length s))
 
 -- a written cell
 abbrev pub readCell : ℕ → List ℕ → Answer (Read ℕ)
 readCell p [] = refuses 1 p
-readCell p (b ∷ s) = pick (isCell b) (reads (b - «LOCAL0_OP») 1) (refuses 3 p)
+readCell p (b ∷ s) = cond (isCell b) (reads (b - «LOCAL0_OP») 1) (refuses 3 p)
 
 abbrev pub readTarget : ℕ → List ℕ → Answer (Read Target)
 readTarget p [] = refuses 1 p
-readTarget p (b ∷ s) = pick (eqb b «NULL_NAME») (reads nowhere 1) (thenRead (readCell p (b ∷ s)) (λ c k. reads (to c) k))
+readTarget p (b ∷ s) = cond (eqb b «NULL_NAME») (reads nowhere 1) (thenRead (readCell p (b ∷ s)) (λ c k. reads (to c) k))
 
 -- where an operator's result goes
 abbrev pub readDest : Dest → ℕ → List ℕ → Answer (Read Target)
@@ -112,7 +112,7 @@ readPackage p s =
     moved p
     (andThen (spelt s) (λ w.
     andThen (fromRaw (length s) (w .raw)) (λ l.
-    pick (leb (w .used) (w .raw)) (gives w) (endsEarly 0))))
+    cond (leb (w .used) (w .raw)) (gives w) (endsEarly 0))))
 
 -- ## Statements
 
@@ -129,7 +129,7 @@ whileOf (head t xs) = while t xs
 abbrev pub readExpr : ℕ → List ℕ → Answer (Read Stmt)
 readExpr p [] = refuses 1 p
 readExpr p (b ∷ s) =
-    pick (expression (termOp b))
+    cond (expression (termOp b))
     (thenRead (readTerm depthLimit p (b ∷ s)) (λ t k. reads (expr t) k))
     (refuses 3 p)
 
@@ -140,7 +140,7 @@ module _ (list : ℕ → List ℕ → Answer (Read Stmts)) where
   readHead p s =
       andThen (readPackage p s) (λ w.
       thenRead (readTerm depthLimit (p + w .used) (drop (w .used) s)) (λ t k.
-      pick (leb (w .used + k) (w .raw))
+      cond (leb (w .used + k) (w .raw))
       (thenRead (list (p + (w .used + k)) (take (w .raw - (w .used + k)) (drop (w .used + k) s))) (λ xs _.
       reads (head t xs) (w .raw)))
       (endsEarly p)))
@@ -199,4 +199,4 @@ treeOf (refuses n p) = refuses n p
 
 -- the reading of a block, or its refusal: its length first
 unfoldable pub readBlock : List ℕ → Answer Stmts
-readBlock s = pick (leb (length s) blockLimit) (treeOf (readList depthLimit 0 s)) (refuses 5 0)
+readBlock s = cond (leb (length s) blockLimit) (treeOf (readList depthLimit 0 s)) (refuses 5 0)

@@ -1,9 +1,10 @@
 -- What the answers of reading say: how far it went, or the refusal.
+use mathlib.Core.Bool.{cond}
 use Prim.Native.Nat.{ℕ, _+_}
 use lib.Dec.{eqb}
 use Rattle.pkg_length.specs.declared.AmlError.{AmlError}
 use Rattle.pkg_length.specs.declared.AmlError.the-variants.{UnexpectedEndOfStream, InvalidPkgLength, BadOpcode, TooDeep}
-use Rattle.pkg_length.specs.Refusal.{Answer, gives, refuses, andThen, pick, refused}
+use Rattle.pkg_length.specs.Refusal.{Answer, gives, refuses, andThen, refused}
 use Rattle.pkg_length.specs.Pkg.{Raw}
 use Rattle.statement.specs.declared.term.Reach.{Reach}
 use Rattle.statement.specs.declared.read.Package.{Package}
@@ -24,15 +25,15 @@ abbrev pub «BAD_OPCODE» : ℕ
 
 abbrev pub refusalOf : Reach → AmlError
 refusalOf r =
-    pick (eqb (r .0) «UNEXPECTED_END»)
+    cond (eqb (r .0) «UNEXPECTED_END»)
     (UnexpectedEndOfStream (r .1))
-    (pick (eqb (r .0) «INVALID_LENGTH»)
+    (cond (eqb (r .0) «INVALID_LENGTH»)
     (InvalidPkgLength (r .1))
-    (pick (eqb (r .0) «BAD_OPCODE») (BadOpcode (r .1)) (TooDeep (r .1))))
+    (cond (eqb (r .0) «BAD_OPCODE») (BadOpcode (r .1)) (TooDeep (r .1))))
 
 -- how far reading went, or the refusal and its place
 abbrev pub reached : Reach → Answer ℕ
-reached r = pick (eqb (r .0) «NEXT») (gives (r .1)) (refused (refusalOf r))
+reached r = cond (eqb (r .0) «NEXT») (gives (r .1)) (refused (refusalOf r))
 
 -- a raw length, and how many bytes spell it
 abbrev pub packed : Package → Answer Raw

@@ -1,22 +1,20 @@
 -- A level is added: by where the pass leads, the definition's answer, and the words of its tree.
-use mathlib.Core.Path.{_≡_, refl, ap, ap₂, sym, subst, subst₂, _∙_}
+use mathlib.Core.Path.{_≡_, refl, ap, sym, subst, subst₂, _∙_}
 use mathlib.Core.Logic.{_⊎_, inl, inr, ⊎-elim}
-use mathlib.Core.Bool.{Bool, true, false}
+use mathlib.Core.Bool.{Bool, true, false, cond}
 use mathlib.Core.List.{List, [], _∷_, _++_, append-assoc}
-use Prim.Native.Nat.{ℕ, zero, suc, _+_, _*_, _-_, _<_, _≤_}
+use Prim.Native.Nat.{ℕ, suc, _+_, _-_, _<_, _≤_}
 use native.Mathlib.Omega.{arith}
-use lib.Dec.{leb, ltb, eqb}
-use lib.ListN.{length, take, drop, getD, replicate, length-append}
+use lib.Dec.{leb, eqb}
+use lib.ListN.{length, take, drop, replicate, length-append}
 use borrow.Author.Tests.{lt-leb, le-leb}
-use Rattle.pkg_length.specs.Refusal.{Answer, gives, refuses, andThen, pick}
+use Rattle.pkg_length.specs.Refusal.{Answer, gives, refuses, andThen}
 use Rattle.table.specs.Limits.{Limits}
 use Rattle.table.specs.Tree.{Binding, Forest, none, level, Tree, Level, bound, levelCount}
-use Rattle.table.specs.Layout.{pack, flat, pad, encode}
+use Rattle.table.specs.Layout.{pack, flat, pad}
 use Rattle.table.specs.Valid.{segmentOk, some}
-use Rattle.table.specs.Memory.{wellFormed, decode}
-use Rattle.table.specs.Edits.{levelAt, alter, scopeOf, lastOf, hasLevel, insertLevel, withChild, withLevels, addLevel}
-use Rattle.table.specs.Inside.{Sought, here, before, missing, seekIn, push}
-use Rattle.table.proofs.Shape.{LevelFit, Valid}
+use Rattle.table.specs.Edits.{levelAt, alter, lastOf, hasLevel, insertLevel, withChild, withLevels, addLevel}
+use Rattle.table.specs.Inside.{Sought, here, before, missing, push}
 use Rattle.table.proofs.Whole.{Whole, level-count}
 use Rattle.table.proofs.Seek.{seekF, lacking, lacks, Shorter, shorter}
 use Rattle.table.proofs.Focus.{Focus, focus}
@@ -66,8 +64,8 @@ module _ (m : Limits) (t : Tree) (w : Whole m t) (p : List ℕ) (h : 1 < length 
 
   -- the definition, once the level around is known
   inside : (a : Answer Level) → levelAt 0 (t .levels) (o .first ∷ o .middle) ≡ a
-      → addLevel m t p typ ≡ andThen a (λ l. pick (hasLevel (lastOf p) (l .children)) (gives t)
-      (pick (leb (m .levels) (levelCount (t .levels))) (refuses 18 0) (gives (withLevels t (alter (withChild (lastOf p) typ) (t .levels) (o .first ∷ o .middle))))))
+      → addLevel m t p typ ≡ andThen a (λ l. cond (hasLevel (lastOf p) (l .children)) (gives t)
+      (cond (leb (m .levels) (levelCount (t .levels))) (refuses 18 0) (gives (withLevels t (alter (withChild (lastOf p) typ) (t .levels) (o .first ∷ o .middle))))))
   unfolding addLevel
   inside a e = rw (lt-leb (length p) 1 h, o .scope, e)
 
@@ -105,7 +103,7 @@ module _ (m : Limits) (t : Tree) (w : Whole m t) (p : List ℕ) (h : 1 < length 
     unfoldable pub grown : Tree
     grown = withLevels t new
 
-    pub add-before : addLevel m t p typ ≡ pick (leb (m .levels) (levelCount (t .levels))) (refuses 18 0) (gives grown)
+    pub add-before : addLevel m t p typ ≡ cond (leb (m .levels) (levelCount (t .levels))) (refuses 18 0) (gives grown)
     unfolding grown new
     add-before = inside (gives (record { bindings = spot .b; children = spot .kids })) (spot .found) ∙ rw (child there (before j) d)
 
@@ -188,12 +186,12 @@ module _ (m : Limits) (t : Tree) (w : Whole m t) (p : List ℕ) (h : 1 < length 
         root-stays none x q h = unfold alter in h
         root-stays (level s′ t b kids next) x [] h = unfold alter withChild in go (eqb s′ x)
           where
-            go : (e : Bool) → some (pick e (level s′ t b (insertLevel (lastOf p) typ kids) next) (level s′ t b kids (alter (withChild (lastOf p) typ) next (x ∷ [])))) ≡ true
+            go : (e : Bool) → some (cond e (level s′ t b (insertLevel (lastOf p) typ kids) next) (level s′ t b kids (alter (withChild (lastOf p) typ) next (x ∷ [])))) ≡ true
             go true = refl
             go false = refl
         root-stays (level s′ t b kids next) x (y ∷ q) h = unfold alter in go (eqb s′ x)
           where
-            go : (e : Bool) → some (pick e (level s′ t b (alter (withChild (lastOf p) typ) kids (y ∷ q)) next) (level s′ t b kids (alter (withChild (lastOf p) typ) next (x ∷ y ∷ q)))) ≡ true
+            go : (e : Bool) → some (cond e (level s′ t b (alter (withChild (lastOf p) typ) kids (y ∷ q)) next) (level s′ t b kids (alter (withChild (lastOf p) typ) next (x ∷ y ∷ q)))) ≡ true
             go true = refl
             go false = refl
 

@@ -1,33 +1,24 @@
 -- A path's last segment, in memory: where it is bound or would be, by the definitions; and one binding more.
-use mathlib.Core.Path.{_≡_, refl, ap, ap₂, sym, subst, subst₂, _∙_}
-use mathlib.Core.Bool.{Bool, true, false}
-use mathlib.Core.Logic.{_⊎_, inl, inr, ⊎-elim}
-use mathlib.Core.List.{List, [], _∷_, _++_, append-assoc, map, map-append}
-use Prim.Native.Nat.{ℕ, zero, suc, _+_, _*_, _-_, _<_, _≤_}
+use mathlib.Core.Path.{_≡_, ap, ap₂, sym, _∙_}
+use mathlib.Core.Bool.{true}
+use mathlib.Core.List.{List, _∷_, _++_, append-assoc, map, map-append}
+use Prim.Native.Nat.{ℕ, suc, _+_, _<_, _≤_}
 use native.Mathlib.Omega.{arith}
-use lib.Dec.{leb, ltb, eqb}
 use lib.ListN.{length, take, drop, getD, set, replicate, length-append, length-map}
 use lib.Seq.{take-at, drop-at, getD-at, set-at}
-use borrow.Author.Tests.{lt-leb, le-leb, lt-ltb}
-use Rattle.pkg_length.specs.Refusal.{Answer, gives, refuses, refused, andThen, pick}
-use Rattle.pkg_length.specs.declared.AmlError.{AmlError}
+use borrow.Author.Tests.{lt-ltb}
 use Rattle.table.specs.Limits.{Limits}
-use Rattle.table.specs.Tree.{Binding, Forest, none, level, Tree, Level, bound}
-use Rattle.table.specs.Layout.{pack, rankOf, countOf, flat, pad, bindWord, bindingOf}
-use Rattle.table.specs.Valid.{segmentOk, some, countOk}
-use Rattle.table.specs.Edits.{levelAt, alter, scopeOf, lastOf, isRoot, handleIn, isBound, insertBinding, withBinding, withLevels, lookUp, bind}
-use Rattle.table.specs.Inside.{Sought, here, before, missing, seekIn, counts, push, slotIn, bindingsAt, slotSpot, spotFrom, spotIn}
-use Rattle.table.specs.declared.inner.Slot.{Slot}
-use Rattle.table.specs.declared.inner.Spot.{Spot}
+use Rattle.table.specs.Tree.{Binding, Forest, Tree, bound}
+use Rattle.table.specs.Layout.{pack, countOf, flat, bindWord, bindingOf}
+use Rattle.table.specs.Valid.{segmentOk, countOk}
+use Rattle.table.specs.Edits.{alter, insertBinding, withBinding}
+use Rattle.table.specs.Inside.{before, counts, bindingsAt}
 use Rattle.table.proofs.Words.{count-pack, bindings-back}
-use Rattle.table.proofs.Shape.{clash, LevelFit, Valid, LevelTests, level-tests, tests-level, fit}
-use Rattle.table.proofs.Decode.{below-spare}
+use Rattle.table.proofs.Shape.{Valid, LevelTests, level-tests, tests-level, fit}
 use Rattle.table.proofs.Whole.{Whole, length-words}
-use Rattle.table.proofs.Seek.{seekF, seek-forest, lacking, lacks}
-use Rattle.table.proofs.Focus.{Focus, focus}
-use Rattle.table.proofs.Insert.{PutIn, put-length, put-words}
-use Rattle.table.proofs.Held.{Split, split-last}
-use Rattle.table.proofs.Slots.{FreeAt, slot-bound, slot-free, rising-more}
+use Rattle.table.proofs.Focus.{Focus}
+use Rattle.table.proofs.Insert.{PutIn, put-length}
+use Rattle.table.proofs.Slots.{FreeAt}
 
 -- the bindings of the level in focus, as the words have them
 module _ (m : Limits) (t : Tree) (w : Whole m t) (hm : m .objects ≤ 4294967296) (ls bs : List ℕ) (z y : ℕ)

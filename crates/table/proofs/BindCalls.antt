@@ -1,35 +1,30 @@
 -- What exact lookup and a new binding answer and leave, by where the path's last segment is.
 use mathlib.Core.Path.{_≡_, refl, ap, ap₂, sym, subst, _∙_}
-use mathlib.Core.Bool.{Bool, true, false}
+use mathlib.Core.Bool.{Bool, true, false, cond}
 use mathlib.Core.Logic.{_⊎_, inl, inr, ⊎-elim}
-use mathlib.Core.List.{List, [], _∷_, _++_, append-assoc, map}
-use Prim.Native.Nat.{ℕ, zero, suc, _+_, _*_, _-_, _<_, _≤_}
+use mathlib.Core.List.{List, map}
+use Prim.Native.Nat.{ℕ, suc, _+_, _-_, _<_, _≤_}
 use native.Mathlib.Omega.{arith}
-use lib.Dec.{leb, ltb, eqb}
-use lib.ListN.{length, take, drop, getD, set, replicate, length-append, length-replicate, length-take, length-drop}
-use lib.Seq.{getD-take, length-take-le}
+use lib.Dec.{leb}
+use lib.ListN.{length, take, drop, replicate, length-drop}
+use lib.Seq.{length-take-le}
 use borrow.Author.Tests.{lt-leb, le-leb, leb-true, leb-false}
-use Rattle.pkg_length.specs.Refusal.{Answer, gives, refuses, refused, andThen, pick}
+use Rattle.pkg_length.specs.Refusal.{gives, refuses, refused}
 use Rattle.pkg_length.specs.declared.AmlError.{AmlError}
 use Rattle.table.specs.Limits.{Limits}
-use Rattle.table.specs.Tree.{Binding, Forest, Tree, Level, bound}
-use Rattle.table.specs.Layout.{pack, flat, pad, encode, bindWord}
-use Rattle.table.specs.Memory.{wellFormed, decode, size, Edited, left}
-use Rattle.table.specs.Edits.{levelAt, alter, scopeOf, lastOf, handleIn, isBound, withBinding, withLevels, withObjects, lookUp, bind, addValue, addAlias, nextHandle}
-use Rattle.table.specs.Inside.{Sought, here, before, missing, seekIn, counts, slotIn, slotSpot, spotFrom, spotIn, bindWords, BindingsHeld}
+use Rattle.table.specs.Tree.{Binding, Tree, bound}
+use Rattle.table.specs.Layout.{flat, bindWord}
+use Rattle.table.specs.Memory.{wellFormed, decode}
+use Rattle.table.specs.Edits.{levelAt, alter, scopeOf, lastOf, handleIn, isBound, withBinding, withLevels, lookUp, bind}
+use Rattle.table.specs.Inside.{Sought, here, before, missing, counts, slotIn, slotSpot, spotFrom, spotIn, BindingsHeld}
 use Rattle.table.specs.declared.inner.Slot.{Slot}
 use Rattle.table.specs.declared.inner.Spot.{Spot}
-use Rattle.table.proofs.Shape.{clash, LevelFit, Valid}
-use Rattle.table.proofs.Whole.{Whole, length-words}
 use Rattle.table.proofs.Seek.{seekF, lacking, lacks}
 use Rattle.table.proofs.Focus.{Focus, focus, counts-append, counts-flat}
-use Rattle.table.proofs.Insert.{put-length, put-words}
-use Rattle.table.proofs.Objects.{whole, words, long, made-is, set-append-add}
-use Rattle.table.proofs.Held.{Split, split-last, seek-held, bindings-room, bindings-full, levels-are, bindings-are, rebuild}
+use Rattle.table.proofs.Objects.{whole, long}
+use Rattle.table.proofs.Held.{Split, split-last, seek-held, levels-are, bindings-are}
 use Rattle.table.proofs.Slots.{FreeAt, slot-bound, slot-live, slot-free}
-use Rattle.table.proofs.Bind.{node-is, bindings-at, new, bound-levels, same-count, put-binding, one-bound, place-bound}
-use Rattle.table.proofs.Memory.{third-is, objectPart}
-use Rattle.table.proofs.LevelCalls.{length-ls}
+use Rattle.table.proofs.Bind.{bindings-at}
 use Rattle.table.proofs.Spots.{counted, counts-spare}
 
 not-refused : {T : Type 0} {e : AmlError} (k : ℕ) (q : Slot) → slotSpot k q ≡ Spot.Refused e → T
@@ -169,8 +164,8 @@ module _ (m : Limits) (hm : m .objects ≤ 4294967296) (ws : List ℕ) (ok : wel
       unfolding lookUp
       at-looked = rw (lt-leb (length p) 1 (a .more), a .level .found)
 
-      at-tied : (h : ℕ) → bind m t p h ≡ pick (isBound (lastOf p) (a .level .b)) (refuses 17 0)
-          (pick (leb (m .bindings) (length (bound (t .levels)))) (refuses 19 0) (gives (withLevels t (alter (withBinding (record { segment = lastOf p; handle = h })) (t .levels) (scopeOf p)))))
+      at-tied : (h : ℕ) → bind m t p h ≡ cond (isBound (lastOf p) (a .level .b)) (refuses 17 0)
+          (cond (leb (m .bindings) (length (bound (t .levels)))) (refuses 19 0) (gives (withLevels t (alter (withBinding (record { segment = lastOf p; handle = h })) (t .levels) (scopeOf p)))))
       unfolding bind
       at-tied h = rw (lt-leb (length p) 1 (a .more), a .level .found)
 
@@ -206,7 +201,7 @@ module _ (m : Limits) (hm : m .objects ≤ 4294967296) (ws : List ℕ) (ok : wel
         pub level : Focus (m .components) (length (t .objects)) (t .levels) 0 0 (scopeOf p) 0 at 0
         pub slot : slotIn (lastOf p) (level .b) (counts (take at ls)) ≡ Slot.Free i
         pub looked : lookUp t p ≡ refuses 16 0
-        pub tied : (h : ℕ) → bind m t p h ≡ pick (leb (m .bindings) (length (bound (t .levels)))) (refuses 19 0)
+        pub tied : (h : ℕ) → bind m t p h ≡ cond (leb (m .bindings) (length (bound (t .levels)))) (refuses 19 0)
             (gives (withLevels t (alter (withBinding (record { segment = lastOf p; handle = h })) (t .levels) (scopeOf p))))
 
       pub spot-open : (at i : ℕ) → r ≡ Spot.Free at i → Open at i

@@ -1,32 +1,28 @@
 -- The words after a binding more, and after a value more, are those of the definition's tree.
-use mathlib.Core.Path.{_≡_, refl, ap, ap₂, sym, subst, _∙_}
-use mathlib.Core.Bool.{Bool, true, false}
+use mathlib.Core.Path.{_≡_, refl, ap, ap₂, sym, _∙_}
+use mathlib.Core.Bool.{true}
 use mathlib.Core.List.{List, [], _∷_, _++_, append-assoc, map}
-use Prim.Native.Nat.{ℕ, zero, suc, _+_, _*_, _-_, _<_, _≤_}
+use Prim.Native.Nat.{ℕ, suc, _+_, _*_, _-_, _<_, _≤_}
 use native.Mathlib.Omega.{arith}
-use lib.Dec.{leb}
-use lib.ListN.{length, take, drop, getD, set, replicate, length-append, length-replicate, length-set, take-append-drop}
+use lib.ListN.{length, take, drop, getD, set, replicate, length-append, length-set, take-append-drop}
 use lib.Seq.{getD-take, set-at, drop-set-lt, take-set-lt, drop-drop}
 use borrow.Author.Tests.{lt-leb, le-leb}
-use Rattle.pkg_length.specs.Refusal.{Answer, gives, refuses, refused, andThen, pick}
-use Rattle.pkg_length.specs.declared.AmlError.{AmlError}
+use Rattle.pkg_length.specs.Refusal.{Answer, gives, refuses}
 use Rattle.table.specs.Limits.{Limits}
 use Rattle.table.specs.Tree.{Binding, Forest, Tree, bound}
 use Rattle.table.specs.Layout.{pack, flat, pad, encode, bindWord}
-use Rattle.table.specs.Memory.{wellFormed, decode, size, Edited, Left, left}
-use Rattle.table.specs.Edits.{alter, scopeOf, lastOf, withBinding, withLevels, withObjects, lookUp, bind, addValue, addAlias}
+use Rattle.table.specs.Memory.{wellFormed, decode, Left}
+use Rattle.table.specs.Edits.{alter, scopeOf, lastOf, withBinding, withLevels, withObjects, bind}
 use Rattle.table.specs.Inside.{counts, spotIn, bindWords, push}
 use Rattle.table.specs.declared.inner.Spot.{Spot}
 use Rattle.table.proofs.Whole.{Whole, length-words, length-pad}
 use Rattle.table.proofs.Focus.{Focus}
 use Rattle.table.proofs.Insert.{put-length, put-words}
-use Rattle.table.proofs.Objects.{whole, words, long, made-is, set-append-add}
-use Rattle.table.proofs.Held.{bindings-room, bindings-full, levels-are, bindings-are, rebuild}
+use Rattle.table.proofs.Objects.{whole, words, set-append-add}
+use Rattle.table.proofs.Held.{levels-are, bindings-are, rebuild}
 use Rattle.table.proofs.Slots.{FreeAt, slot-free}
 use Rattle.table.proofs.Bind.{node-is, new, bound-levels, same-count, put-binding, one-bound, place-bound}
-use Rattle.table.proofs.Memory.{third-is, objectPart}
-use Rattle.table.proofs.LevelCalls.{length-ls}
-use Rattle.table.proofs.BindCalls.{length-bs, Open}
+use Rattle.table.proofs.BindCalls.{Open}
 
 same-left : {A : Type 0} {ws us : List ℕ} {a b : Answer A} → ws ≡ us → a ≡ b → _≡_ {A = Left A} (record { words = ws; said = a }) (record { words = us; said = b })
 same-left e f = λ i. record { words = e i; said = f i }

@@ -1,21 +1,19 @@
 -- What a valid forest is written as passes.
-use mathlib.Core.Path.{_≡_, refl, ap, ap₂, sym, subst, _∙_}
-use mathlib.Core.Bool.{Bool, true, false}
-use mathlib.Core.List.{List, [], _∷_, _++_, append-assoc, map, map-append}
+use mathlib.Core.Path.{_≡_, refl, _∙_}
+use mathlib.Core.Bool.{true}
+use mathlib.Core.List.{List, _∷_, _++_, append-assoc, map, map-append}
 use Prim.Native.Nat.{ℕ, zero, suc, _+_, _<_, _≤_}
 use native.Mathlib.Omega.{arith}
 use native.Mathlib.Numerals.{add-one}
-use lib.Dec.{eqb}
 use lib.ListN.{length, take, drop, getD, set, replicate, length-set, length-append, length-map}
 use lib.Seq.{getD-set-same, getD-set-other, take-at, drop-at}
-use Rattle.pkg_length.specs.Refusal.{pick}
 use Rattle.name_object.specs.Memory.{allZero}
 use Rattle.table.specs.Tree.{Binding, Forest, none, level, bound}
-use Rattle.table.specs.Layout.{pack, rankOf, typeOf, countOf, segOf, bindWord, bindingOf, flat}
-use Rattle.table.specs.Inside.{noted, scan}
+use Rattle.table.specs.Layout.{pack, bindWord, flat}
+use Rattle.table.specs.Inside.{scan}
 use Rattle.table.proofs.Words.{rank-pack, type-pack, count-pack, seg-pack, bindings-back}
 use Rattle.table.proofs.Shape.{LevelFit, Valid}
-use Rattle.table.proofs.Scan.{Passes, scan-zero, scan-pass}
+use Rattle.table.proofs.Scan.{scan-zero, scan-pass}
 
 module _ (limit made : ℕ) (hm : made ≤ 4294967296) where
   module _ (p r lo s t : ℕ) (low : List ℕ) (b : List Binding) (W X : List ℕ) (f : LevelFit limit made r lo s t b) (h : r ≤ p + 1) (e : getD low r 0 ≡ lo) where

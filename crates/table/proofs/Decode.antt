@@ -1,19 +1,16 @@
 -- What a forest is written as decodes to it, whatever follows: so words mean one forest.
-use mathlib.Core.Path.{_≡_, refl, ap, ap₂, sym, _∙_}
+use mathlib.Core.Path.{_≡_, refl, _∙_}
 use mathlib.Core.List.{List, [], _∷_, _++_, append-assoc}
-use Prim.Native.Nat.{ℕ, suc, _+_, _/_, _<_, _≤_}
+use Prim.Native.Nat.{ℕ, suc, _<_}
 use native.Mathlib.Omega.{arith}
-use mathlib.Core.Bool.{Bool, true, false}
-use lib.Dec.{ltb, eqb}
 use lib.ListN.{length, take, drop}
 use lib.Seq.{take-append-seam, drop-append-seam}
 use borrow.Author.Tests.{lt-ltb, le-ltb, eq-eqb, ne-eqb}
-use Rattle.pkg_length.specs.Refusal.{pick}
 use Rattle.table.specs.Tree.{Binding, Forest, none, level, bound}
 use Rattle.table.specs.Layout.{pack, rankOf, typeOf, countOf, segOf, flat}
 use Rattle.table.specs.Memory.{siblings}
 use Rattle.table.proofs.Words.{rank-pack, type-pack, count-pack, seg-pack}
-use Rattle.table.proofs.Shape.{LevelFit, Valid}
+use Rattle.table.proofs.Shape.{Valid}
 
 -- what follows a forest of rank r begins with a record of smaller rank
 abbrev pub Below : ℕ → List ℕ → Type 0

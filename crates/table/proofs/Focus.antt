@@ -1,19 +1,18 @@
 -- A level that is there: what stands before and after it in memory, and one law for every change of it.
 use mathlib.Core.Path.{_≡_, refl, ap, ap₂, sym, _∙_}
-use mathlib.Core.Bool.{Bool, true, false}
+use mathlib.Core.Bool.{Bool, true, false, cond}
 use mathlib.Core.List.{List, [], _∷_, _++_, append-assoc, append-nil}
-use Prim.Native.Nat.{ℕ, zero, suc, _+_, _-_, _<_, _≤_}
+use Prim.Native.Nat.{ℕ, suc, _+_}
 use native.Mathlib.Omega.{arith}
-use lib.Dec.{leb, ltb, eqb}
-use lib.ListN.{length, getD, length-append}
-use borrow.Author.Tests.{eqb-true, eqb-false, ltb-true, ltb-false}
-use Rattle.pkg_length.specs.Refusal.{Answer, gives, refuses, pick}
-use Rattle.table.specs.Tree.{Binding, Forest, none, level, Level, bound}
+use lib.Dec.{ltb, eqb}
+use lib.ListN.{length, length-append}
+use Rattle.pkg_length.specs.Refusal.{gives}
+use Rattle.table.specs.Tree.{Binding, Forest, none, level, bound}
 use Rattle.table.specs.Layout.{pack, countOf, flat}
 use Rattle.table.specs.Edits.{levelAt, Change, alter}
-use Rattle.table.specs.Inside.{Sought, here, before, missing, gone, counts}
+use Rattle.table.specs.Inside.{here, gone, counts}
 use Rattle.table.proofs.Words.{count-pack}
-use Rattle.table.proofs.Shape.{LevelFit, Valid}
+use Rattle.table.proofs.Shape.{Valid}
 use Rattle.table.proofs.Decode.{Below, below-flat}
 use Rattle.table.proofs.Seek.{after, after-is, seekF, seek-nil}
 
@@ -190,7 +189,7 @@ gone-not (x ∷ p) r k j e = let z : _≡_ {A = ℕ} 0 1 = cc in omega arith
 module _ (limit made : ℕ) (s′ t : ℕ) (b : List Binding) (kids next : Forest) (r lo₀ : ℕ) (v : Valid limit made (suc r) lo₀ (level s′ t b kids next)) (s : ℕ) (p : List ℕ) (at k j : ℕ)
     (inside : eqb s′ s ≡ true → seekF kids p (suc r) k (suc k) ≡ here j → Focus limit made (level s′ t b kids next) r lo₀ (s ∷ p) at j k)
     (later : seekF next (s ∷ p) r at (after kids (suc k)) ≡ here j → Focus limit made next r (suc s′) (s ∷ p) at j (after kids (suc k))) where
-  focus-pick : (e d : Bool) → eqb s′ s ≡ e → ltb s s′ ≡ d → pick e (seekF kids p (suc r) k (suc k)) (pick d (gone p r k) (seekF next (s ∷ p) r at (after kids (suc k)))) ≡ here j
+  focus-pick : (e d : Bool) → eqb s′ s ≡ e → ltb s s′ ≡ d → cond e (seekF kids p (suc r) k (suc k)) (cond d (gone p r k) (seekF next (s ∷ p) r at (after kids (suc k)))) ≡ here j
       → Focus limit made (level s′ t b kids next) r lo₀ (s ∷ p) at j k
   focus-pick true d x z y = inside x y
   focus-pick false true x z y = absurd (gone-not p r k j y)

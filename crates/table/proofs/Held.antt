@@ -1,29 +1,27 @@
 -- What well-formed memory shows of its tree: where paths lead, and whether there is room.
-use mathlib.Core.Path.{_≡_, refl, ap, ap₂, sym, subst, _∙_}
-use mathlib.Core.Bool.{Bool, true, false}
-use mathlib.Core.List.{List, [], _∷_, _++_, append-assoc, map, map-append}
+use mathlib.Core.Path.{_≡_, refl, ap, ap₂, sym, _∙_}
+use mathlib.Core.Bool.{true}
+use mathlib.Core.List.{List, [], _∷_, _++_, map, map-append}
 use mathlib.Core.Logic.{⊎-elim}
-use Prim.Native.Nat.{ℕ, zero, suc, _+_, _*_, _-_, _<_, _≤_}
+use Prim.Native.Nat.{ℕ, zero, suc, _+_, _-_, _<_, _≤_}
 use native.Mathlib.Omega.{arith}
 use native.Mathlib.Nat.{not-suc-le-zero, le-of-suc-le-suc, eq-or-lt-of-le}
 use lib.Dec.{leb, ltb}
-use lib.ListN.{length, take, drop, getD, replicate, length-append, length-take, length-drop, List·getD-append, take-append-drop}
+use lib.ListN.{length, take, drop, getD, replicate, List·getD-append, take-append-drop}
 use lib.Seq.{getD-append-add, take-suc, take-all, length-take-le, drop-drop}
-use borrow.Author.Tests.{leb-true, ltb-true}
-use Rattle.pkg_length.specs.Refusal.{Answer, gives, refuses, pick}
 use Rattle.name_object.proofs.Paths.{both}
 use Rattle.table.specs.Limits.{Limits}
-use Rattle.table.specs.Tree.{Binding, Forest, none, level, Tree, bound}
+use Rattle.table.specs.Tree.{Binding, Forest, none, level, bound}
 use Rattle.table.specs.Layout.{pack, flat, pad, encode, bindWord}
 use Rattle.table.specs.Valid.{segmentOk, rising}
-use Rattle.table.specs.Memory.{wellFormed, decode, size}
+use Rattle.table.specs.Memory.{wellFormed, decode}
 use Rattle.table.specs.Edits.{scopeOf, lastOf, withLevels}
-use Rattle.table.specs.Inside.{Sought, here, before, missing, seekIn}
-use Rattle.table.proofs.Shape.{LevelFit, Valid, segment-range}
+use Rattle.table.specs.Inside.{seekIn}
+use Rattle.table.proofs.Shape.{Valid, segment-range}
 use Rattle.table.proofs.Decode.{below-spare}
-use Rattle.table.proofs.Whole.{Whole, length-words}
-use Rattle.table.proofs.Memory.{levelPart, bindPart, objectPart, first-is, second-is, third-is, encode-parts}
-use Rattle.table.proofs.Objects.{tree, whole, words}
+use Rattle.table.proofs.Whole.{length-words}
+use Rattle.table.proofs.Memory.{levelPart, bindPart, objectPart, first-is, second-is, third-is}
+use Rattle.table.proofs.Objects.{whole, words}
 use Rattle.table.proofs.Seek.{seekF, seek-forest}
 
 -- no word of a level or a binding is 0

@@ -1,20 +1,19 @@
 -- A new level among siblings: one word more among their words, and no binding moves.
-use mathlib.Core.Path.{_≡_, refl, ap, ap₂, sym, subst, _∙_}
-use mathlib.Core.Bool.{Bool, true, false}
+use mathlib.Core.Path.{_≡_, refl, ap, ap₂, sym, _∙_}
+use mathlib.Core.Bool.{Bool, true, false, cond}
 use mathlib.Core.List.{List, [], _∷_, _++_, append-assoc}
-use Prim.Native.Nat.{ℕ, zero, suc, _+_, _*_, _-_, _<_, _≤_}
+use Prim.Native.Nat.{ℕ, suc, _+_, _<_, _≤_}
 use native.Mathlib.Omega.{arith}
-use lib.Dec.{leb, ltb, eqb}
-use lib.ListN.{length, take, drop, getD, replicate, length-append}
+use lib.Dec.{ltb, eqb}
+use lib.ListN.{length, take, drop, replicate, length-append}
 use lib.Seq.{take-at, drop-at}
-use borrow.Author.Tests.{eqb-true, eqb-false, ltb-true, ltb-false, ne-eqb, lt-ltb}
-use Rattle.pkg_length.specs.Refusal.{Answer, gives, refuses, pick}
-use Rattle.table.specs.Tree.{Binding, Forest, none, level, Level, bound}
+use borrow.Author.Tests.{eqb-false, ltb-true, ltb-false, ne-eqb, lt-ltb}
+use Rattle.table.specs.Tree.{Binding, Forest, none, level, bound}
 use Rattle.table.specs.Layout.{pack, flat}
-use Rattle.table.specs.Valid.{segmentOk, rising, nameOk, levelOk}
+use Rattle.table.specs.Valid.{segmentOk, rising}
 use Rattle.table.specs.Edits.{hasLevel, insertLevel}
 use Rattle.table.specs.Inside.{Sought, here, before, missing, gone, push}
-use Rattle.table.proofs.Shape.{clash, LevelFit, Valid, LevelTests, level-tests, tests-level, fit}
+use Rattle.table.proofs.Shape.{LevelFit, Valid, level-tests, tests-level, fit}
 use Rattle.table.proofs.Seek.{after, after-is, seekF, seek-nil}
 use Rattle.table.proofs.Moves.{push-pad}
 
@@ -72,7 +71,7 @@ insert-bound s typ none = refl
 insert-bound s typ (level s′ t b kids next) = go (insert-bound s typ next) (ltb s s′)
   where
     go : bound (insertLevel s typ next) ≡ bound next → (d : Bool)
-        → bound (pick d (level s typ [] none (level s′ t b kids next)) (level s′ t b kids (insertLevel s typ next))) ≡ b ++ (bound kids ++ bound next)
+        → bound (cond d (level s typ [] none (level s′ t b kids next)) (level s′ t b kids (insertLevel s typ next))) ≡ b ++ (bound kids ++ bound next)
     go h true = refl
     go h false = ap (λ (l : List Binding). b ++ (bound kids ++ l)) h
 
@@ -84,9 +83,9 @@ insert-put none s typ r at k j e = record { pre = []; post = []; before = refl; 
 insert-put (level s′ t b kids next) s typ r at k j e = go (insert-put next s typ r at (after kids (suc k)) j) (eqb s′ s) (ltb s s′) e
   where
     go : (seekF next (s ∷ []) r at (after kids (suc k)) ≡ before j → PutIn (flat (suc r) next) (flat (suc r) (insertLevel s typ next)) (pack (suc r) typ 0 s) j (after kids (suc k)))
-        → (x y : Bool) → pick x (seekF kids [] (suc r) k (suc k)) (pick y (before k) (seekF next (s ∷ []) r at (after kids (suc k)))) ≡ before j
+        → (x y : Bool) → cond x (seekF kids [] (suc r) k (suc k)) (cond y (before k) (seekF next (s ∷ []) r at (after kids (suc k)))) ≡ before j
         → PutIn (pack (suc r) t (length b) s′ ∷ (flat (suc (suc r)) kids ++ flat (suc r) next))
-        (flat (suc r) (pick y (level s typ [] none (level s′ t b kids next)) (level s′ t b kids (insertLevel s typ next)))) (pack (suc r) typ 0 s) j k
+        (flat (suc r) (cond y (level s typ [] none (level s′ t b kids next)) (level s′ t b kids (insertLevel s typ next)))) (pack (suc r) typ 0 s) j k
     go h true y e = not-before (sym (seek-nil kids (suc r) k (suc k)) ∙ e)
     go h false true e = record { pre = []; post = _; before = refl; now = refl; at = omega (arith, before-same e) }
     go h false false e =
@@ -118,7 +117,7 @@ module _ (limit made : ℕ) where
   has (level s′ t b kids next) r lo s at k v = go (has next r (suc s′) s at (after kids (suc k)) (v .2)) (eqb s′ s) (ltb s s′) refl
     where
       go : Has (seekF next (s ∷ []) r at (after kids (suc k))) (hasLevel s next) → (x y : Bool) → ltb s s′ ≡ y
-          → Has (pick x (seekF kids [] (suc r) k (suc k)) (pick y (before k) (seekF next (s ∷ []) r at (after kids (suc k))))) (pick x true (hasLevel s next))
+          → Has (cond x (seekF kids [] (suc r) k (suc k)) (cond y (before k) (seekF next (s ∷ []) r at (after kids (suc k))))) (cond x true (hasLevel s next))
       go h true y e = rw (seek-nil kids (suc r) k (suc k)) refl
       go h false true e = late-has next (suc r) (suc s′) s (v .2) (omega (arith, ltb-true s s′ e))
       go h false false e = h
@@ -142,7 +141,7 @@ module _ (limit made : ℕ) where
         (record { ranked = omega arith; shallow = hl; rises = h; named = rw (ne-eqb (suc r) 1 (λ e. omega arith), hs) (lt-ltb typ 6 ht); counted = none-fit (ltb (suc r) limit) }))
         (unfold rising in refl)
       where
-        none-fit : (t : Bool) → pick t (ltb 0 1024) (eqb 0 0) ≡ true
+        none-fit : (t : Bool) → cond t (ltb 0 1024) (eqb 0 0) ≡ true
         none-fit true = refl
         none-fit false = refl
 
@@ -153,8 +152,8 @@ module _ (limit made : ℕ) where
         go (λ d. insert-valid next (suc s′) at (after kids (suc k)) j d (v .2)) (eqb s′ s) (ltb s s′) refl refl e
       where
         go : (suc s′ ≤ s → seekF next (s ∷ []) r at (after kids (suc k)) ≡ before j → Valid limit made (suc r) (suc s′) (insertLevel s typ next))
-            → (x y : Bool) → eqb s′ s ≡ x → ltb s s′ ≡ y → pick x (seekF kids [] (suc r) k (suc k)) (pick y (before k) (seekF next (s ∷ []) r at (after kids (suc k)))) ≡ before j
-            → Valid limit made (suc r) lo (pick y (level s typ [] none (level s′ t b kids next)) (level s′ t b kids (insertLevel s typ next)))
+            → (x y : Bool) → eqb s′ s ≡ x → ltb s s′ ≡ y → cond x (seekF kids [] (suc r) k (suc k)) (cond y (before k) (seekF next (s ∷ []) r at (after kids (suc k)))) ≡ before j
+            → Valid limit made (suc r) lo (cond y (level s typ [] none (level s′ t b kids next)) (level s′ t b kids (insertLevel s typ next)))
         go i true y p q e = not-before (sym (seek-nil kids (suc r) k (suc k)) ∙ e)
         go i false true p q e = (new-fit lo h, tt, (lower (suc r) lo (suc s) s′ t b (v .0) (ltb-true s s′ q), v .1, v .2))
         go i false false p q e = (v .0, v .1, i (omega (arith, ltb-false s s′ q, eqb-false s′ s p)) e)

@@ -1,34 +1,34 @@
 -- What the order asks of the table, under plain names. Memory means one tree; a fresh table is well-formed; an edit of a valid tree gives a valid
 -- tree, so that whatever a call leaves is well-formed; the search finds the innermost, and counts the scopes asked.
-use mathlib.Core.Path.{_≡_, refl, ap, ap₂, sym, subst, _∙_}
-use mathlib.Core.Bool.{Bool, true, false}
+use mathlib.Core.Path.{_≡_, refl, ap, sym, subst, _∙_}
+use mathlib.Core.Bool.{Bool, true, false, cond}
 use mathlib.Core.Logic.{_↔_}
-use mathlib.Core.List.{List, [], _∷_, _++_, append-nil, map}
+use mathlib.Core.List.{List, [], _∷_, _++_, map}
 use Prim.Native.Nat.{ℕ, zero, suc, _+_, _-_, _<_, _≤_}
 use native.Mathlib.Omega.{arith}
 use lib.Dec.{leb, ltb, eqb}
-use lib.ListN.{length, take, drop, getD, set, replicate, length-append, length-set}
+use lib.ListN.{length, take, set, replicate, length-append, length-set}
 use lib.Seq.{length-take-le}
-use borrow.Author.Tests.{le-leb, lt-leb, leb-true, leb-false, lt-ltb, le-ltb, ltb-true, ltb-false}
-use Rattle.pkg_length.specs.Refusal.{Answer, gives, refuses, andThen, pick}
+use borrow.Author.Tests.{le-leb, lt-leb, leb-true, leb-false, ltb-true, ltb-false}
+use Rattle.pkg_length.specs.Refusal.{Answer, gives, refuses, andThen}
 use Rattle.name_object.specs.Component.{Component}
 use Rattle.table.specs.Limits.{Limits}
-use Rattle.table.specs.Tree.{Binding, Forest, none, level, Tree, Level, bound, levelCount}
+use Rattle.table.specs.Tree.{Binding, Forest, none, level, Tree, Level, bound}
 use Rattle.table.specs.Layout.{flat, encode, bindWord}
 use Rattle.table.specs.Valid.{segmentOk, some, valid}
-use Rattle.table.specs.Memory.{wellFormed, decode, means, Edited, Left, left, done, freshTree}
-use Rattle.table.specs.Edits.{levelAt, Change, alter, scopeOf, lastOf, isBound, hasLevel, insertLevel, insertBinding, withChild, withBinding, without, withLevels, withObjects, nextHandle, addLevel, removeLevel, lookUp, bind, addValue, addAlias, valueOf, setValue}
+use Rattle.table.specs.Memory.{wellFormed, means, Edited, left, freshTree}
+use Rattle.table.specs.Edits.{levelAt, Change, alter, scopeOf, lastOf, isBound, withBinding, withLevels, withObjects, nextHandle, addLevel, removeLevel, lookUp, bind, addValue, addAlias, setValue}
 use Rattle.table.specs.Inside.{Sought, here, before, missing, counts, slotIn}
 use Rattle.table.specs.Search.{Found, orOn, outward}
 use Rattle.table.specs.declared.inner.Slot.{Slot}
-use Rattle.table.proofs.Shape.{clash, LevelFit, Valid, LevelTests, level-tests, tests-level, fit}
-use Rattle.table.proofs.Whole.{Whole, valid-whole, whole-valid, length-words}
-use Rattle.table.proofs.Memory.{means-encode, means-whole, one-tree, formed-whole, encode-formed}
+use Rattle.table.proofs.Shape.{Valid, fit}
+use Rattle.table.proofs.Whole.{Whole, valid-whole}
+use Rattle.table.proofs.Memory.{means-encode, means-whole, one-tree, encode-formed}
 use Rattle.table.proofs.Objects.{fresh-valid}
 use Rattle.table.proofs.Seek.{seekF, lacking, lacks}
 use Rattle.table.proofs.Focus.{Focus, focus}
 use Rattle.table.proofs.Held.{Split, split-last}
-use Rattle.table.proofs.AddLevel.{grown, add-root, add-here, add-missing, add-full, add-room, add-whole}
+use Rattle.table.proofs.AddLevel.{add-root, add-here, add-missing, add-full, add-room, add-whole}
 use Rattle.table.proofs.Remove.{remove-root, remove-here, remove-before, remove-missing, removed-whole}
 use Rattle.table.proofs.Slots.{rising-more, FreeAt, slot-bound, slot-free}
 use Rattle.table.proofs.Bind.{new, same-count, one-bound, bound-valid}
@@ -109,12 +109,12 @@ alter-some g h none p k = k
 alter-some g h (level s′ t b kids next) [] k = refl
 alter-some g h (level s′ t b kids next) (x ∷ []) k = go (eqb s′ x)
   where
-    go : (e : Bool) → some (pick e (g s′ t b kids next) (level s′ t b kids (alter g next (x ∷ [])))) ≡ true
+    go : (e : Bool) → some (cond e (g s′ t b kids next) (level s′ t b kids (alter g next (x ∷ [])))) ≡ true
     go true = h s′ t b kids next
     go false = refl
 alter-some g h (level s′ t b kids next) (x ∷ y ∷ p) k = go (eqb s′ x)
   where
-    go : (e : Bool) → some (pick e (level s′ t b (alter g kids (y ∷ p)) next) (level s′ t b kids (alter g next (x ∷ y ∷ p)))) ≡ true
+    go : (e : Bool) → some (cond e (level s′ t b (alter g kids (y ∷ p)) next) (level s′ t b kids (alter g next (x ∷ y ∷ p)))) ≡ true
     go true = refl
     go false = refl
 
@@ -130,7 +130,7 @@ module _ (m : Limits) (t u : Tree) (p : List ℕ) (h : ℕ) (w : Whole m t) (g :
       go false q = leb-false (length p) 1 q
 
   opened : (a : Answer Level) → levelAt 0 (t .levels) (scopeOf p) ≡ a
-      → bind m t p h ≡ andThen a (λ l. pick (isBound (lastOf p) (l .bindings)) (refuses 17 0) (pick (leb (m .bindings) (length (bound (t .levels)))) (refuses 19 0)
+      → bind m t p h ≡ andThen a (λ l. cond (isBound (lastOf p) (l .bindings)) (refuses 17 0) (cond (leb (m .bindings) (length (bound (t .levels)))) (refuses 19 0)
       (gives (withLevels t (alter (withBinding (record { segment = lastOf p; handle = h })) (t .levels) (scopeOf p))))))
   unfolding bind
   opened a q = rw (lt-leb (length p) 1 more, q)
@@ -169,7 +169,7 @@ module _ (m : Limits) (t u : Tree) (p : List ℕ) (h : ℕ) (w : Whole m t) (g :
       go (Slot.Bound k) q = no-gift (sym (taken (slot-bound (lastOf p) (f .b) (counts (take (spot .0) ls)) k q .1)) ∙ e)
       go (Slot.Free i) q = (i, slot-free (lastOf p) (length (t .objects)) 0 x (f .b) (counts (take (spot .0) ls)) i refl (f .valid .0 .ordered) q)
 
-  full : bind m t p h ≡ pick (leb (m .bindings) (length (bound (t .levels)))) (refuses 19 0) (gives (withLevels t (alter (withBinding x) (t .levels) (scopeOf p))))
+  full : bind m t p h ≡ cond (leb (m .bindings) (length (bound (t .levels)))) (refuses 19 0) (gives (withLevels t (alter (withBinding x) (t .levels) (scopeOf p))))
   full = opened (gives (record { bindings = f .b; children = f .kids })) (f .found) ∙ rw (free .1 .clear)
 
   room : length (bound (t .levels)) < m .bindings
@@ -220,7 +220,7 @@ pub set-value-valid : (m : Limits) (t u : Tree) (h v : ℕ) → Whole m t → se
 unfolding setValue
 set-value-valid m t u h v w e = go (ltb h (length (t .objects))) refl e
   where
-    go : (x : Bool) → ltb h (length (t .objects)) ≡ x → pick x (gives (withObjects t (set (t .objects) h v))) (refuses 21 0) ≡ gives u → Whole m u
+    go : (x : Bool) → ltb h (length (t .objects)) ≡ x → cond x (gives (withObjects t (set (t .objects) h v))) (refuses 21 0) ≡ gives u → Whole m u
     go true q e =
         subst (Whole m) (gives-same e) (objects-valid m t (set (t .objects) h v) w (omega (arith, length-set (t .objects) h v)) (omega (arith, length-set (t .objects) h v, w .objects)))
     go false q e = no-gift e
@@ -235,7 +235,7 @@ look-up-live m t p h w e = go (leb (length p) 1) e
         handle-live (length (t .objects)) 0 (lastOf p) h (l .bindings) (level-ordered (m .components) (length (t .objects)) (t .levels) 1 0 0 (scopeOf p) l (w .forest) q) e
     found (refuses a b) q e = no-gift e
 
-    go : (x : Bool) → pick x (refuses 13 0) (andThen (levelAt 0 (t .levels) (scopeOf p)) (λ l. Rattle.table.specs.Edits.handleIn (lastOf p) (l .bindings))) ≡ gives h → h < length (t .objects)
+    go : (x : Bool) → cond x (refuses 13 0) (andThen (levelAt 0 (t .levels) (scopeOf p)) (λ l. Rattle.table.specs.Edits.handleIn (lastOf p) (l .bindings))) ≡ gives h → h < length (t .objects)
     go true e = no-gift e
     go false e = found (levelAt 0 (t .levels) (scopeOf p)) refl e
 
@@ -261,15 +261,15 @@ module _ (m : Limits) (t : Tree) (w : Whole m t) (cap : m .bindings < 1024) (hm 
       new-levels : Forest
       new-levels = alter (withBinding (record { segment = lastOf p; handle = h })) (t .levels) (scopeOf p)
 
-      last : (x y : Bool) → pick x (refuses 17 0) (pick y (refuses 19 0) (gives (withLevels t new-levels))) ≡ gives u
-          → pick x (refuses 17 0) (pick y (refuses 19 0) (gives (record { levels = new-levels; objects = vs }))) ≡ gives (withObjects u vs)
+      last : (x y : Bool) → cond x (refuses 17 0) (cond y (refuses 19 0) (gives (withLevels t new-levels))) ≡ gives u
+          → cond x (refuses 17 0) (cond y (refuses 19 0) (gives (record { levels = new-levels; objects = vs }))) ≡ gives (withObjects u vs)
       last true y e = no-gift e
       last false true e = no-gift e
       last false false e = ap (λ (z : Tree). gives (withObjects z vs)) (gives-same e)
 
       go : (x : Bool) (a : Answer Level)
-          → pick x (refuses 13 0) (andThen a (λ l. pick (isBound (lastOf p) (l .bindings)) (refuses 17 0) (pick (leb (m .bindings) (length (bound (t .levels)))) (refuses 19 0) (gives (withLevels t new-levels))))) ≡ gives u
-          → pick x (refuses 13 0) (andThen a (λ l. pick (isBound (lastOf p) (l .bindings)) (refuses 17 0) (pick (leb (m .bindings) (length (bound (t .levels)))) (refuses 19 0) (gives (record { levels = new-levels; objects = vs })))))
+          → cond x (refuses 13 0) (andThen a (λ l. cond (isBound (lastOf p) (l .bindings)) (refuses 17 0) (cond (leb (m .bindings) (length (bound (t .levels)))) (refuses 19 0) (gives (withLevels t new-levels))))) ≡ gives u
+          → cond x (refuses 13 0) (andThen a (λ l. cond (isBound (lastOf p) (l .bindings)) (refuses 17 0) (cond (leb (m .bindings) (length (bound (t .levels)))) (refuses 19 0) (gives (record { levels = new-levels; objects = vs })))))
           ≡ gives (withObjects u vs)
       go true a e = no-gift e
       go false (gives l) e = last (isBound (lastOf p) (l .bindings)) (leb (m .bindings) (length (bound (t .levels)))) e
@@ -286,7 +286,7 @@ module _ (m : Limits) (t : Tree) (w : Whole m t) (cap : m .bindings < 1024) (hm 
       long = length-append (t .objects) (v ∷ [])
 
       room : (u : Tree) → bind m t p (nextHandle t) ≡ gives u → (x : Bool) → leb (m .objects) (length (t .objects)) ≡ x
-          → pick x (refuses 20 0) (gives (record { tree = withObjects u (t .objects ++ (v ∷ [])); value = nextHandle t })) ≡ gives e → Whole m (e .tree)
+          → cond x (refuses 20 0) (gives (record { tree = withObjects u (t .objects ++ (v ∷ [])); value = nextHandle t })) ≡ gives e → Whole m (e .tree)
       room u b true q d = no-gift d
       room u b false q d =
           subst (Whole m) (ap (λ (y : Edited ℕ). y .tree) (gives-same d))
@@ -295,7 +295,7 @@ module _ (m : Limits) (t : Tree) (w : Whole m t) (cap : m .bindings < 1024) (hm 
           g (omega (arith, long)) cap hm (bind-same p (nextHandle t) (t .objects ++ (v ∷ [])) u b))
 
       tied : (a : Answer Tree) → bind m t p (nextHandle t) ≡ a
-          → andThen a (λ u. pick (leb (m .objects) (length (t .objects))) (refuses 20 0) (gives (record { tree = withObjects u (t .objects ++ (v ∷ [])); value = nextHandle t }))) ≡ gives e → Whole m (e .tree)
+          → andThen a (λ u. cond (leb (m .objects) (length (t .objects))) (refuses 20 0) (gives (record { tree = withObjects u (t .objects ++ (v ∷ [])); value = nextHandle t }))) ≡ gives e → Whole m (e .tree)
       tied (gives u) b d = room u b (leb (m .objects) (length (t .objects))) refl d
       tied (refuses n k) b d = no-gift d
 

@@ -1,22 +1,20 @@
 -- What adding and removing a level leave in memory and say, by what the pass over the records told.
-use mathlib.Core.Path.{_≡_, refl, ap, ap₂, sym, subst, _∙_}
-use mathlib.Core.Bool.{Bool, true, false}
-use mathlib.Core.List.{List, [], _∷_, _++_, append-assoc}
-use Prim.Native.Nat.{ℕ, zero, suc, _+_, _*_, _-_, _<_, _≤_}
+use mathlib.Core.Path.{_≡_, refl, ap, ap₂, sym, _∙_}
+use mathlib.Core.Bool.{true}
+use mathlib.Core.List.{List, _++_}
+use Prim.Native.Nat.{ℕ, _+_, _*_, _-_, _<_, _≤_}
 use native.Mathlib.Omega.{arith}
 use lib.ListN.{length, take, drop, getD, length-append, length-drop, length-replicate}
 use lib.Seq.{getD-take, length-take-le, take-at, drop-at, drop-drop}
-use Rattle.pkg_length.specs.Refusal.{Answer, gives, refuses, andThen, pick}
+use Rattle.pkg_length.specs.Refusal.{Answer, gives, refuses}
 use Rattle.table.specs.Limits.{Limits}
-use Rattle.table.specs.Tree.{Forest, Tree, bound}
-use Rattle.table.specs.Layout.{pack, flat, encode}
-use Rattle.table.specs.Memory.{wellFormed, decode, size, Edited, Left, left, done}
+use Rattle.table.specs.Tree.{Tree}
+use Rattle.table.specs.Layout.{pack, encode}
+use Rattle.table.specs.Memory.{wellFormed, decode, Edited, Left, left, done}
 use Rattle.table.specs.Edits.{lastOf, alter, without, withLevels, addLevel, removeLevel}
 use Rattle.table.specs.Inside.{Sought, here, before, missing, seekIn, counts, subtreeEnd, closed, push, placed, subtreeOf}
 use Rattle.table.specs.declared.inner.Sought.{Sought as Placed}
 use Rattle.table.specs.declared.inner.Run.{Run}
-use Rattle.table.proofs.Shape.{clash}
-use Rattle.table.proofs.Whole.{Whole}
 use Rattle.table.proofs.Seek.{seekF}
 use Rattle.table.proofs.Focus.{Focus}
 use Rattle.table.proofs.Objects.{whole, words, long}

@@ -1,23 +1,23 @@
 -- Well-formed memory means exactly one tree: the one that it is written from.
-use mathlib.Core.Path.{_≡_, refl, ap, ap₂, sym, subst, _∙_}
-use mathlib.Core.Bool.{Bool, true, false}
-use mathlib.Core.List.{List, [], _∷_, _++_, append-assoc, append-nil, map, map-append}
-use Prim.Native.Nat.{ℕ, zero, suc, _+_, _-_, _<_, _≤_}
+use mathlib.Core.Path.{_≡_, refl, ap, ap₂, sym, _∙_}
+use mathlib.Core.Bool.{Bool, true, false, cond}
+use mathlib.Core.List.{List, [], _∷_, _++_, map, map-append}
+use Prim.Native.Nat.{ℕ, suc, _+_, _-_, _≤_}
 use native.Mathlib.Omega.{arith}
-use lib.Dec.{eqb, leb}
+use lib.Dec.{eqb}
 use lib.ListN.{length, take, drop, getD, replicate, length-append, length-drop, take-append-drop}
 use lib.Seq.{take-at, drop-at, getD-drop, length-take-le, drop-drop}
-use borrow.Author.Tests.{eq-eqb, ne-eqb, eqb-true, eqb-false}
-use Rattle.pkg_length.specs.Refusal.{Answer, gives, refuses, pick}
+use borrow.Author.Tests.{eq-eqb, eqb-true}
+use Rattle.pkg_length.specs.Refusal.{gives, refuses}
 use Rattle.name_object.proofs.Paths.{both}
 use Rattle.table.specs.Limits.{Limits}
-use Rattle.table.specs.Tree.{Binding, Forest, none, level, Tree, bound}
+use Rattle.table.specs.Tree.{Forest, none, level, Tree, bound}
 use Rattle.table.specs.Layout.{bindWord, bindingOf, flat, pad, encode}
 use Rattle.table.specs.Valid.{valid}
 use Rattle.table.specs.Memory.{siblings, decode, same, wellFormed, means, size}
 use Rattle.table.specs.Inside.{partsOk}
 use Rattle.table.proofs.Words.{bindings-back}
-use Rattle.table.proofs.Shape.{clash, LevelFit, Valid}
+use Rattle.table.proofs.Shape.{clash, Valid}
 use Rattle.table.proofs.Decode.{siblings-flat, below-spare}
 use Rattle.table.proofs.Whole.{Whole, valid-whole, whole-valid, Held, length-pad, length-words, parts-held, held-parts}
 
@@ -165,7 +165,7 @@ pub means-whole : (m : Limits) (ws : List ℕ) (t : Tree) → means m ws ≡ giv
 unfolding means
 means-whole m ws t h = go (wellFormed m ws) refl h
   where
-    go : (x : Bool) → wellFormed m ws ≡ x → pick x (gives (decode m ws)) (refuses 24 0) ≡ gives t → (valid m t ≡ true) × (ws ≡ encode m t)
+    go : (x : Bool) → wellFormed m ws ≡ x → cond x (gives (decode m ws)) (refuses 24 0) ≡ gives t → (valid m t ≡ true) × (ws ≡ encode m t)
     go true e k =
         let d : decode m ws ≡ t = cc in
         rw (← d) (formed-whole m ws e)
@@ -211,11 +211,11 @@ module _ (m : Limits) (hm : m .objects ≤ 4294967296) (ws : List ℕ) where
       let w = valid-whole m (decode m ws) (x .0) in
       (ap length (x .1) ∙ encode-length m hm (decode m ws) w, held-parts m (decode m ws) _ _ _ hm (held-words m hm (decode m ws) w ws (x .1)))
 
-  pub formed-test : wellFormed m ws ≡ pick (eqb (length ws) (size m)) (partsOk m (take (m .levels) ws) (take (m .bindings) (drop (m .levels) ws)) (drop (m .levels + m .bindings) ws)) false
+  pub formed-test : wellFormed m ws ≡ cond (eqb (length ws) (size m)) (partsOk m (take (m .levels) ws) (take (m .bindings) (drop (m .levels) ws)) (drop (m .levels + m .bindings) ws)) false
   unfolding test
   formed-test = go (eqb (length ws) (size m)) test (wellFormed m ws) refl refl refl
     where
-      go : (x y z : Bool) → eqb (length ws) (size m) ≡ x → test ≡ y → wellFormed m ws ≡ z → z ≡ pick x y false
+      go : (x y z : Bool) → eqb (length ws) (size m) ≡ x → test ≡ y → wellFormed m ws ≡ z → z ≡ cond x y false
       go true true true a b c = refl
       go true true false a b c = sym c ∙ passes-formed (eqb-true _ _ a) b
       go true false true a b c = sym (formed-passes c .1) ∙ b

@@ -1,24 +1,23 @@
 -- The search over the tree: going down the scope's levels and remembering the last that answers is asking scope after scope outwards.
 use mathlib.Core.Path.{_≡_, refl, ap, ap₂, sym, subst, _∙_}
-use mathlib.Core.Bool.{Bool, true, false}
-use mathlib.Core.Logic.{_⊎_, inl, inr, ⊎-elim}
-use mathlib.Core.List.{List, [], _∷_, _++_, append-assoc}
+use mathlib.Core.Bool.{Bool, true, false, cond}
+use mathlib.Core.List.{List, [], _∷_, _++_}
 use Prim.Native.Nat.{ℕ, zero, suc, _+_, _-_, _<_, _≤_}
 use native.Mathlib.Omega.{arith}
-use lib.Dec.{leb, ltb, eqb}
-use lib.ListN.{length, take, drop, getD, length-append}
+use lib.Dec.{ltb, eqb}
+use lib.ListN.{length, take, length-append}
 use lib.Seq.{take-at, getD-at, length-take-le}
-use borrow.Author.Tests.{lt-leb, lt-ltb, le-ltb, ltb-true, ltb-false, eqb-true, eqb-false, ne-eqb}
-use Rattle.pkg_length.specs.Refusal.{Answer, gives, refuses, andThen, pick}
+use borrow.Author.Tests.{lt-leb, le-ltb, ltb-true, ltb-false, eqb-true}
+use Rattle.pkg_length.specs.Refusal.{Answer, gives, refuses, andThen}
 use Rattle.name_object.specs.Component.{Component}
 use Rattle.table.specs.Limits.{Limits}
 use Rattle.table.specs.Tree.{Binding, Forest, none, level, Tree, Level, key, keys}
 use Rattle.table.specs.Valid.{rising, countOk}
-use Rattle.table.specs.Edits.{levelAt, scopeOf, lastOf, hasLevel, handleIn, lookUp}
-use Rattle.table.specs.Search.{Found, orOn, outward, valueIn, levelIn}
-use Rattle.table.proofs.Shape.{clash, LevelFit, Valid, level-tests}
+use Rattle.table.specs.Edits.{levelAt, scopeOf, lastOf, handleIn, lookUp}
+use Rattle.table.specs.Search.{Found, orOn, outward, valueIn}
+use Rattle.table.proofs.Shape.{Valid, level-tests}
 use Rattle.table.proofs.Whole.{Whole}
-use Rattle.table.proofs.Slots.{BindingTests, binding-tests}
+use Rattle.table.proofs.Slots.{binding-tests}
 
 pub length-keys : (cs : List Component) → length (keys cs) ≡ length cs
 unfolding keys
@@ -40,7 +39,7 @@ unfoldable pub nearF : {A : Type 0} → (Level → Answer A) → Forest → List
 nearF ask none p r out = out
 nearF ask (level s′ t b kids next) [] r out = out
 nearF ask (level s′ t b kids next) (x ∷ p) r out =
-    pick (eqb s′ x) (nearF ask kids p (suc r) (closer (suc r) (ask (record { bindings = b; children = kids })) out)) (nearF ask next (x ∷ p) r out)
+    cond (eqb s′ x) (nearF ask kids p (suc r) (closer (suc r) (ask (record { bindings = b; children = kids })) out)) (nearF ask next (x ∷ p) r out)
 
 -- the innermost of the first n scopes that answers
 unfoldable pub best : {A : Type 0} → (Level → Answer A) → Forest → List ℕ → ℕ → Answer (Deep A) → ℕ → Answer (Deep A)
@@ -90,7 +89,7 @@ module _ {A : Type 0} (ask : Level → Answer A) where
       go : (e : Bool) → eqb s′ x ≡ e
           → nearF ask kids p (suc r) (closer (suc r) (ask (record { bindings = b; children = kids })) out) ≡ best ask kids p (suc r) (closer (suc r) (ask (record { bindings = b; children = kids })) out) (length p)
           → nearF ask next (x ∷ p) r out ≡ best ask next (x ∷ p) r out (suc (length p))
-          → pick e (nearF ask kids p (suc r) (closer (suc r) (ask (record { bindings = b; children = kids })) out)) (nearF ask next (x ∷ p) r out) ≡ best ask (level s′ t b kids next) (x ∷ p) r out (suc (length p))
+          → cond e (nearF ask kids p (suc r) (closer (suc r) (ask (record { bindings = b; children = kids })) out)) (nearF ask next (x ∷ p) r out) ≡ best ask (level s′ t b kids next) (x ∷ p) r out (suc (length p))
       go true e i l = i ∙ sym (best-match s′ t b kids next x p r out (length p) e (omega arith))
       go false e i l = l ∙ sym (best-skip s′ t b kids next x p r out (suc (length p)) e)
 
@@ -210,7 +209,7 @@ module _ (limit made : ℕ) where
       counted : countOk limit (suc r) (length b) ≡ true → length b ≡ 0
       counted k = eqb-true (length b) 0 (sym (rw (le-ltb (suc r) limit (omega arith))) ∙ k)
 
-      go : (y : Bool) → (levelAt n next (x ∷ []) ≡ gives l → r + 1 ≡ limit → l .bindings ≡ []) → pick y (gives (record { bindings = b; children = kids })) (levelAt n next (x ∷ [])) ≡ gives l → l .bindings ≡ []
+      go : (y : Bool) → (levelAt n next (x ∷ []) ≡ gives l → r + 1 ≡ limit → l .bindings ≡ []) → cond y (gives (record { bindings = b; children = kids })) (levelAt n next (x ∷ [])) ≡ gives l → l .bindings ≡ []
       go true i e =
           let d : record { bindings = b; children = kids } ≡ l = cc in
           sym (ap (λ (m : Level). m .bindings) d) ∙ none-left b (counted (level-tests limit (suc r) lo s′ t (length b) (v .0 .ok) .counted))
@@ -218,7 +217,7 @@ module _ (limit made : ℕ) where
   deep-bindings (level s′ t b kids next) r lo n (x ∷ y ∷ p) l v e h = go (eqb s′ x) (deep-bindings kids (suc r) 0 (suc n) (y ∷ p) l (v .1)) (deep-bindings next r (suc s′) n (x ∷ y ∷ p) l (v .2)) e
     where
       go : (z : Bool) → (levelAt (suc n) kids (y ∷ p) ≡ gives l → suc r + suc (length p) ≡ limit → l .bindings ≡ []) → (levelAt n next (x ∷ y ∷ p) ≡ gives l → r + suc (suc (length p)) ≡ limit → l .bindings ≡ [])
-          → pick z (levelAt (suc n) kids (y ∷ p)) (levelAt n next (x ∷ y ∷ p)) ≡ gives l → l .bindings ≡ []
+          → cond z (levelAt (suc n) kids (y ∷ p)) (levelAt n next (x ∷ y ∷ p)) ≡ gives l → l .bindings ≡ []
       go true i j e = i e (omega arith)
       go false i j e = j e h
 
@@ -232,13 +231,13 @@ module _ (limit made : ℕ) where
       childless none w = refl
       childless (level s u c ks ne) w = absurd (omega (arith, w .0 .shallow))
 
-      go : (y : Bool) → (levelAt n next (x ∷ []) ≡ gives l → r + 1 ≡ limit → l .children ≡ none) → pick y (gives (record { bindings = b; children = kids })) (levelAt n next (x ∷ [])) ≡ gives l → l .children ≡ none
+      go : (y : Bool) → (levelAt n next (x ∷ []) ≡ gives l → r + 1 ≡ limit → l .children ≡ none) → cond y (gives (record { bindings = b; children = kids })) (levelAt n next (x ∷ [])) ≡ gives l → l .children ≡ none
       go true i e = let d : record { bindings = b; children = kids } ≡ l = cc in sym (ap (λ (m : Level). m .children) d) ∙ childless kids (v .1)
       go false i e = i e h
   deep-children (level s′ t b kids next) r lo n (x ∷ y ∷ p) l v e h = go (eqb s′ x) (deep-children kids (suc r) 0 (suc n) (y ∷ p) l (v .1)) (deep-children next r (suc s′) n (x ∷ y ∷ p) l (v .2)) e
     where
       go : (z : Bool) → (levelAt (suc n) kids (y ∷ p) ≡ gives l → suc r + suc (length p) ≡ limit → l .children ≡ none) → (levelAt n next (x ∷ y ∷ p) ≡ gives l → r + suc (suc (length p)) ≡ limit → l .children ≡ none)
-          → pick z (levelAt (suc n) kids (y ∷ p)) (levelAt n next (x ∷ y ∷ p)) ≡ gives l → l .children ≡ none
+          → cond z (levelAt (suc n) kids (y ∷ p)) (levelAt n next (x ∷ y ∷ p)) ≡ gives l → l .children ≡ none
       go true i j e = i e (omega arith)
       go false i j e = j e h
 
@@ -249,14 +248,14 @@ module _ (limit made : ℕ) where
   level-ordered (level s′ t b kids next) r lo n [] l v e = absurd (let z : _≡_ {A = ℕ} 0 1 = cc in omega arith)
   level-ordered (level s′ t b kids next) r lo n (x ∷ []) l v e = go (eqb s′ x) (level-ordered next r (suc s′) n (x ∷ []) l (v .2)) e
     where
-      go : (y : Bool) → (levelAt n next (x ∷ []) ≡ gives l → rising made 0 (l .bindings) ≡ true) → pick y (gives (record { bindings = b; children = kids })) (levelAt n next (x ∷ [])) ≡ gives l
+      go : (y : Bool) → (levelAt n next (x ∷ []) ≡ gives l → rising made 0 (l .bindings) ≡ true) → cond y (gives (record { bindings = b; children = kids })) (levelAt n next (x ∷ [])) ≡ gives l
           → rising made 0 (l .bindings) ≡ true
       go true i e = let d : record { bindings = b; children = kids } ≡ l = cc in subst (λ (m : Level). rising made 0 (m .bindings) ≡ true) d (v .0 .ordered)
       go false i e = i e
   level-ordered (level s′ t b kids next) r lo n (x ∷ y ∷ p) l v e = go (eqb s′ x) (level-ordered kids (suc r) 0 (suc n) (y ∷ p) l (v .1)) (level-ordered next r (suc s′) n (x ∷ y ∷ p) l (v .2)) e
     where
       go : (z : Bool) → (levelAt (suc n) kids (y ∷ p) ≡ gives l → rising made 0 (l .bindings) ≡ true) → (levelAt n next (x ∷ y ∷ p) ≡ gives l → rising made 0 (l .bindings) ≡ true)
-          → pick z (levelAt (suc n) kids (y ∷ p)) (levelAt n next (x ∷ y ∷ p)) ≡ gives l → rising made 0 (l .bindings) ≡ true
+          → cond z (levelAt (suc n) kids (y ∷ p)) (levelAt n next (x ∷ y ∷ p)) ≡ gives l → rising made 0 (l .bindings) ≡ true
       go true i j e = i e
       go false i j e = j e
 
@@ -268,7 +267,7 @@ handle-live made lo s h (b ∷ bs) r e =
     let t = binding-tests made lo b bs r in
     go (eqb (b .segment) s) (t .live) (handle-live made (suc (b .segment)) s h bs (t .later)) e
   where
-    go : (x : Bool) → b .handle < made → (handleIn s bs ≡ gives h → h < made) → pick x (gives (b .handle)) (handleIn s bs) ≡ gives h → h < made
+    go : (x : Bool) → b .handle < made → (handleIn s bs ≡ gives h → h < made) → cond x (gives (b .handle)) (handleIn s bs) ≡ gives h → h < made
     go true l i e = let d : b .handle ≡ h = cc in omega arith
     go false l i e = i e
 

@@ -1,16 +1,16 @@
 -- One pass over the records finds the innermost scope that has a level of a segment.
-use mathlib.Core.Path.{_≡_, refl, ap, ap₂, sym, subst, _∙_}
-use mathlib.Core.Bool.{Bool, true, false}
-use mathlib.Core.Logic.{_⊎_, inl, inr, ⊎-elim}
+use mathlib.Core.Path.{_≡_, refl, ap, ap₂, sym, _∙_}
+use mathlib.Core.Bool.{Bool, true, false, cond}
+use mathlib.Core.Logic.{_⊎_, inl, inr}
 use mathlib.Core.List.{List, [], _∷_, _++_, append-assoc}
 use Prim.Native.Nat.{ℕ, zero, suc, _+_, _-_, _<_, _≤_}
 use native.Mathlib.Omega.{arith}
 use native.Mathlib.Numerals.{add-one}
 use lib.Dec.{leb, ltb, eqb}
 use lib.ListN.{length, take, drop, getD, replicate, drop-of-length-le, length-drop}
-use lib.Seq.{drop-cons, length-take-le, take-at}
-use borrow.Author.Tests.{le-leb, lt-leb, eq-eqb, ne-eqb, eqb-true, eqb-false, lt-ltb, le-ltb, ltb-true, ltb-false, leb-true, leb-false}
-use Rattle.pkg_length.specs.Refusal.{Answer, gives, refuses, andThen, pick}
+use lib.Seq.{drop-cons, length-take-le}
+use borrow.Author.Tests.{le-leb, lt-leb, eq-eqb, ne-eqb, eqb-true, lt-ltb, le-ltb, ltb-true, ltb-false, leb-true, leb-false}
+use Rattle.pkg_length.specs.Refusal.{Answer, gives, refuses, andThen}
 use Rattle.name_object.specs.Component.{Component}
 use Rattle.table.specs.Limits.{Limits}
 use Rattle.table.specs.Tree.{Binding, Forest, none, level, Tree, Level, key, keys}
@@ -18,9 +18,9 @@ use Rattle.table.specs.Layout.{pack, rankOf, segOf, flat}
 use Rattle.table.specs.Memory.{wellFormed, decode}
 use Rattle.table.specs.Edits.{levelAt, hasLevel}
 use Rattle.table.specs.Inside.{reopened, onward, nearLevelIn}
-use Rattle.table.specs.Search.{Found, outward, levelIn}
+use Rattle.table.specs.Search.{outward, levelIn}
 use Rattle.table.proofs.Words.{rank-pack, seg-pack}
-use Rattle.table.proofs.Shape.{clash, LevelFit, Valid}
+use Rattle.table.proofs.Shape.{Valid}
 use Rattle.table.proofs.Decode.{Below, below-flat, below-spare}
 use Rattle.table.proofs.Whole.{Whole}
 use Rattle.table.proofs.Objects.{whole}
@@ -29,7 +29,7 @@ use Rattle.table.proofs.Near.{length-keys, Deep, closer, nearF, Hold, n
 
 -- a level of the scope answers where it has the child
 abbrev pub askChild : ℕ → Level → Answer (Unit {0})
-askChild s l = pick (hasLevel s (l .children)) (gives tt) (refuses 15 1)
+askChild s l = cond (hasLevel s (l .children)) (gives tt) (refuses 15 1)
 
 abbrev pub depthOf : Answer (Deep (Unit {0})) → ℕ
 depthOf (gives d) = d .depth
@@ -39,7 +39,7 @@ depthOf (refuses n p) = 0
 unfoldable pub nearL : ℕ → Forest → List ℕ → ℕ → ℕ → ℕ
 nearL s none p r best = best
 nearL s (level s′ t b kids next) [] r best = best
-nearL s (level s′ t b kids next) (x ∷ p) r best = pick (eqb s′ x) (nearL s kids p (suc r) (pick (hasLevel s kids) (suc r) best)) (nearL s next (x ∷ p) r best)
+nearL s (level s′ t b kids next) (x ∷ p) r best = cond (eqb s′ x) (nearL s kids p (suc r) (cond (hasLevel s kids) (suc r) best)) (nearL s next (x ∷ p) r best)
 
 pub near-depth : (s : ℕ) (f : Forest) (p : List ℕ) (r : ℕ) (out : Answer (Deep (Unit {0}))) → depthOf (nearF (askChild s) f p r out) ≡ nearL s f p r (depthOf out)
 unfolding nearF nearL
@@ -48,7 +48,7 @@ near-depth s (level s′ t b kids next) [] r out = refl
 near-depth s (level s′ t b kids next) (x ∷ p) r out =
     go (eqb s′ x) (near-depth s kids p (suc r) (closer (suc r) (askChild s (record { bindings = b; children = kids })) out)) (near-depth s next (x ∷ p) r out)
   where
-    asked : (h : Bool) → depthOf (closer (suc r) (pick h (gives tt) (refuses 15 1)) out) ≡ pick h (suc r) (depthOf out)
+    asked : (h : Bool) → depthOf (closer (suc r) (cond h (gives tt) (refuses 15 1)) out) ≡ cond h (suc r) (depthOf out)
     asked true = refl
     asked false = refl
 
@@ -56,8 +56,8 @@ near-depth s (level s′ t b kids next) (x ∷ p) r out =
         → depthOf (nearF (askChild s) kids p (suc r) (closer (suc r) (askChild s (record { bindings = b; children = kids })) out))
         ≡ nearL s kids p (suc r) (depthOf (closer (suc r) (askChild s (record { bindings = b; children = kids })) out))
         → depthOf (nearF (askChild s) next (x ∷ p) r out) ≡ nearL s next (x ∷ p) r (depthOf out)
-        → depthOf (pick e (nearF (askChild s) kids p (suc r) (closer (suc r) (askChild s (record { bindings = b; children = kids })) out)) (nearF (askChild s) next (x ∷ p) r out))
-        ≡ pick e (nearL s kids p (suc r) (pick (hasLevel s kids) (suc r) (depthOf out))) (nearL s next (x ∷ p) r (depthOf out))
+        → depthOf (cond e (nearF (askChild s) kids p (suc r) (closer (suc r) (askChild s (record { bindings = b; children = kids })) out)) (nearF (askChild s) next (x ∷ p) r out))
+        ≡ cond e (nearL s kids p (suc r) (cond (hasLevel s kids) (suc r) (depthOf out))) (nearL s next (x ∷ p) r (depthOf out))
     go true i l = i ∙ ap (nearL s kids p (suc r)) (asked (hasLevel s kids))
     go false i l = l
 
@@ -75,8 +75,8 @@ fixed s (level s′ t b kids next) (x ∷ p) r = go (eqb s′ x) refl (hasLevel 
   where
     go : (e : Bool) → eqb s′ x ≡ e → (h : Bool) → hasLevel s kids ≡ h → Fixed s kids p (suc r) ⊎ ((best : ℕ) → nearL s kids p (suc r) best ≡ best)
         → Fixed s next (x ∷ p) r ⊎ ((best : ℕ) → nearL s next (x ∷ p) r best ≡ best)
-        → Fixed s (level s′ t b kids next) (x ∷ p) r ⊎ ((best : ℕ) → pick (eqb s′ x) (nearL s kids p (suc r) (pick (hasLevel s kids) (suc r) best)) (nearL s next (x ∷ p) r best) ≡ best)
-    go true e h q (inl k) l = inl (record { depth = k .depth; deeper = omega (arith, k .deeper); always = λ best. rw e (k .always (pick (hasLevel s kids) (suc r) best)) })
+        → Fixed s (level s′ t b kids next) (x ∷ p) r ⊎ ((best : ℕ) → cond (eqb s′ x) (nearL s kids p (suc r) (cond (hasLevel s kids) (suc r) best)) (nearL s next (x ∷ p) r best) ≡ best)
+    go true e h q (inl k) l = inl (record { depth = k .depth; deeper = omega (arith, k .deeper); always = λ best. rw e (k .always (cond (hasLevel s kids) (suc r) best)) })
     go true e true q (inr k) l = inl (record { depth = suc r; deeper = omega arith; always = λ best. rw (e, q) (k (suc r)) })
     go true e false q (inr k) l = inr (λ best. rw (e, q) (k best))
     go false e h q k (inl l) = inl (record { depth = l .depth; deeper = l .deeper; always = λ best. rw e (l .always best) })
@@ -85,10 +85,10 @@ fixed s (level s′ t b kids next) (x ∷ p) r = go (eqb s′ x) refl (hasLevel 
 -- the order of the records: siblings, and what stands below the one on the way, after it
 unfoldable pub levF : ℕ → Forest → List ℕ → ℕ → ℕ → ℕ
 levF s none p r best = best
-levF s (level s′ t b kids next) [] r best = pick (leb (suc r) best) best (levF s next [] r (pick (eqb s′ s) r best))
+levF s (level s′ t b kids next) [] r best = cond (leb (suc r) best) best (levF s next [] r (cond (eqb s′ s) r best))
 levF s (level s′ t b kids next) (x ∷ p) r best =
-    pick (leb (suc r) best) best
-    (pick (eqb s′ x) (levF s next (x ∷ p) r (levF s kids p (suc r) (pick (eqb s′ s) r best))) (levF s next (x ∷ p) r (pick (eqb s′ s) r best)))
+    cond (leb (suc r) best) best
+    (cond (eqb s′ x) (levF s next (x ∷ p) r (levF s kids p (suc r) (cond (eqb s′ s) r best))) (levF s next (x ∷ p) r (cond (eqb s′ s) r best)))
 
 lev-done : (s : ℕ) (f : Forest) (p : List ℕ) (r best : ℕ) → suc r ≤ best → levF s f p r best ≡ best
 unfolding levF
@@ -109,58 +109,58 @@ module _ (limit made : ℕ) where
       rw (ne-eqb s′ x (λ e. omega (arith, v .0 .rises))) (late-near s next q (suc s′) x p r best (v .2) (omega (arith, v .0 .rises)))
 
   -- one sibling more
-  step : (s s′ r best : ℕ) (h : Bool) → pick h r (pick (eqb s′ s) r best) ≡ pick (pick (eqb s′ s) true h) r best
+  step : (s s′ r best : ℕ) (h : Bool) → cond h r (cond (eqb s′ s) r best) ≡ cond (cond (eqb s′ s) true h) r best
   step s s′ r best h = go (eqb s′ s) h
     where
-      go : (e h : Bool) → pick h r (pick e r best) ≡ pick (pick e true h) r best
+      go : (e h : Bool) → cond h r (cond e r best) ≡ cond (cond e true h) r best
       go true true = refl
       go true false = refl
       go false h = refl
 
-  low : (e : Bool) (r best : ℕ) → best ≤ r → pick e r best ≤ r
+  low : (e : Bool) (r best : ℕ) → best ≤ r → cond e r best ≤ r
   low true r best h = omega arith
   low false r best h = h
 
-  pub lev-near : (s : ℕ) (f : Forest) (lo : ℕ) (p : List ℕ) (r best : ℕ) → Valid limit made (suc r) lo f → best ≤ r → levF s f p r best ≡ nearL s f p r (pick (hasLevel s f) r best)
+  pub lev-near : (s : ℕ) (f : Forest) (lo : ℕ) (p : List ℕ) (r best : ℕ) → Valid limit made (suc r) lo f → best ≤ r → levF s f p r best ≡ nearL s f p r (cond (hasLevel s f) r best)
   unfolding levF nearL hasLevel
   lev-near s none lo p r best v h = refl
   lev-near s (level s′ t b kids next) lo [] r best v h =
       rw (lt-leb (suc r) best (omega arith))
-      (lev-near s next (suc s′) [] r (pick (eqb s′ s) r best) (v .2) (low (eqb s′ s) r best h)
-      ∙ near-nil s next r (pick (hasLevel s next) r (pick (eqb s′ s) r best)) ∙ step s s′ r best (hasLevel s next))
+      (lev-near s next (suc s′) [] r (cond (eqb s′ s) r best) (v .2) (low (eqb s′ s) r best h)
+      ∙ near-nil s next r (cond (hasLevel s next) r (cond (eqb s′ s) r best)) ∙ step s s′ r best (hasLevel s next))
   lev-near s (level s′ t b kids next) lo (x ∷ p) r best v h =
       rw (lt-leb (suc r) best (omega arith))
-      (go (eqb s′ x) refl (lev-near s kids 0 p (suc r) (pick (eqb s′ s) r best) (v .1) (omega (arith, low (eqb s′ s) r best h)))
-      (lev-near s next (suc s′) (x ∷ p) r (pick (eqb s′ s) r best) (v .2) (low (eqb s′ s) r best h)))
+      (go (eqb s′ x) refl (lev-near s kids 0 p (suc r) (cond (eqb s′ s) r best) (v .1) (omega (arith, low (eqb s′ s) r best h)))
+      (lev-near s next (suc s′) (x ∷ p) r (cond (eqb s′ s) r best) (v .2) (low (eqb s′ s) r best h)))
     where
       go : (e : Bool) → eqb s′ x ≡ e
-          → levF s kids p (suc r) (pick (eqb s′ s) r best) ≡ nearL s kids p (suc r) (pick (hasLevel s kids) (suc r) (pick (eqb s′ s) r best))
-          → levF s next (x ∷ p) r (pick (eqb s′ s) r best) ≡ nearL s next (x ∷ p) r (pick (hasLevel s next) r (pick (eqb s′ s) r best))
-          → pick e (levF s next (x ∷ p) r (levF s kids p (suc r) (pick (eqb s′ s) r best))) (levF s next (x ∷ p) r (pick (eqb s′ s) r best))
-          ≡ pick e (nearL s kids p (suc r) (pick (hasLevel s kids) (suc r) (pick (pick (eqb s′ s) true (hasLevel s next)) r best))) (nearL s next (x ∷ p) r (pick (pick (eqb s′ s) true (hasLevel s next)) r best))
+          → levF s kids p (suc r) (cond (eqb s′ s) r best) ≡ nearL s kids p (suc r) (cond (hasLevel s kids) (suc r) (cond (eqb s′ s) r best))
+          → levF s next (x ∷ p) r (cond (eqb s′ s) r best) ≡ nearL s next (x ∷ p) r (cond (hasLevel s next) r (cond (eqb s′ s) r best))
+          → cond e (levF s next (x ∷ p) r (levF s kids p (suc r) (cond (eqb s′ s) r best))) (levF s next (x ∷ p) r (cond (eqb s′ s) r best))
+          ≡ cond e (nearL s kids p (suc r) (cond (hasLevel s kids) (suc r) (cond (cond (eqb s′ s) true (hasLevel s next)) r best))) (nearL s next (x ∷ p) r (cond (cond (eqb s′ s) true (hasLevel s next)) r best))
       go false e i l = l ∙ ap (nearL s next (x ∷ p) r) (step s s′ r best (hasLevel s next))
       go true e i l = rw i (found (hasLevel s kids) refl (fixed s kids p (suc r)))
         where
           -- nothing deeper: what was before stays, and the later siblings are asked
-          on : (c : ℕ) → c ≡ pick (eqb s′ s) r best → levF s next (x ∷ p) r c ≡ pick (pick (eqb s′ s) true (hasLevel s next)) r best
+          on : (c : ℕ) → c ≡ cond (eqb s′ s) r best → levF s next (x ∷ p) r c ≡ cond (cond (eqb s′ s) true (hasLevel s next)) r best
           on c q =
               ap (levF s next (x ∷ p) r) q ∙ l
-              ∙ late-near s next (suc r) (suc s′) x p r (pick (hasLevel s next) r (pick (eqb s′ s) r best)) (v .2) (omega (arith, eqb-true s′ x e))
+              ∙ late-near s next (suc r) (suc s′) x p r (cond (hasLevel s next) r (cond (eqb s′ s) r best)) (v .2) (omega (arith, eqb-true s′ x e))
               ∙ step s s′ r best (hasLevel s next)
 
           found : (hk : Bool) → hasLevel s kids ≡ hk → Fixed s kids p (suc r) ⊎ ((best : ℕ) → nearL s kids p (suc r) best ≡ best)
-              → levF s next (x ∷ p) r (nearL s kids p (suc r) (pick (hasLevel s kids) (suc r) (pick (eqb s′ s) r best)))
-              ≡ nearL s kids p (suc r) (pick (hasLevel s kids) (suc r) (pick (pick (eqb s′ s) true (hasLevel s next)) r best))
-          found hk q (inl k) = rw (k .always (pick (hasLevel s kids) (suc r) (pick (eqb s′ s) r best)), k .always (pick (hasLevel s kids) (suc r) (pick (pick (eqb s′ s) true (hasLevel s next)) r best)))
+              → levF s next (x ∷ p) r (nearL s kids p (suc r) (cond (hasLevel s kids) (suc r) (cond (eqb s′ s) r best)))
+              ≡ nearL s kids p (suc r) (cond (hasLevel s kids) (suc r) (cond (cond (eqb s′ s) true (hasLevel s next)) r best))
+          found hk q (inl k) = rw (k .always (cond (hasLevel s kids) (suc r) (cond (eqb s′ s) r best)), k .always (cond (hasLevel s kids) (suc r) (cond (cond (eqb s′ s) true (hasLevel s next)) r best)))
               (lev-done s next (x ∷ p) r (k .depth) (omega (arith, k .deeper)))
           found true q (inr k) = rw (q, k (suc r)) (lev-done s next (x ∷ p) r (suc r) (omega arith))
-          found false q (inr k) = rw (q, k (pick (eqb s′ s) r best), k (pick (pick (eqb s′ s) true (hasLevel s next)) r best)) (on (pick (eqb s′ s) r best) refl)
+          found false q (inr k) = rw (q, k (cond (eqb s′ s) r best), k (cond (cond (eqb s′ s) true (hasLevel s next)) r best)) (on (cond (eqb s′ s) r best) refl)
 
 -- the pass over the words
 reopen-is : (depth r : ℕ) → r ≤ depth → reopened depth (suc r) ≡ r
 reopen-is depth r h = go (leb (suc r) depth) refl
   where
-    go : (e : Bool) → leb (suc r) depth ≡ e → pick e (suc r - 1) depth ≡ r
+    go : (e : Bool) → leb (suc r) depth ≡ e → cond e (suc r - 1) depth ≡ r
     go true e = omega arith
     go false e = omega (arith, leb-false (suc r) depth e)
 
@@ -176,7 +176,7 @@ module _ (s : ℕ) (P : List ℕ) where
     lev-ended h = rw (le-leb (rankOf w) best h)
 
     lev-child : (r : ℕ) → rankOf w ≡ suc r → best ≤ r → r ≤ depth
-        → nearLevelIn s P (w ∷ ws) depth best ≡ nearLevelIn s P ws (pick (onward P r (segOf w)) (suc r) r) (pick (eqb (segOf w) s) r best)
+        → nearLevelIn s P (w ∷ ws) depth best ≡ nearLevelIn s P ws (cond (onward P r (segOf w)) (suc r) r) (cond (eqb (segOf w) s) r best)
     unfolding nearLevelIn
     lev-child r e h l =
         let o : reopened depth (rankOf w) ≡ r = ap (reopened depth) e ∙ reopen-is depth r l in
@@ -232,21 +232,21 @@ module _ (s : ℕ) (P : List ℕ) where
             goes = ap (λ (x : List ℕ). nearLevelIn s P x depth best) words-are ∙ lev-ended word rest depth best (rw rank-is l) ∙ sym (lev-stop ws r depth best l u);
           }
 
-      begun : best ≤ r → nearLevelIn s P (flat (suc r) (level s′ t b kids next) ++ ws) depth best ≡ nearLevelIn s P rest (pick (onward P r s′) (suc r) r) (pick (eqb s′ s) r best)
+      begun : best ≤ r → nearLevelIn s P (flat (suc r) (level s′ t b kids next) ++ ws) depth best ≡ nearLevelIn s P rest (cond (onward P r s′) (suc r) r) (cond (eqb s′ s) r best)
       begun l =
           ap (λ (x : List ℕ). nearLevelIn s P x depth best) words-are ∙ lev-child word rest depth best r rank-is l h
-          ∙ ap (λ (n : ℕ). nearLevelIn s P rest (pick (onward P r n) (suc r) r) (pick (eqb n s) r best)) seg-is
+          ∙ ap (λ (n : ℕ). nearLevelIn s P rest (cond (onward P r n) (suc r) r) (cond (eqb n s) r best)) seg-is
 
-      off : (end : ℕ) → best ≤ r → onward P r s′ ≡ false → Goes next ws r r (pick (eqb s′ s) r best) end → Goes (level s′ t b kids next) ws r depth best end
+      off : (end : ℕ) → best ≤ r → onward P r s′ ≡ false → Goes next ws r r (cond (eqb s′ s) r best) end → Goes (level s′ t b kids next) ws r depth best end
       unfolding rest
       off end l o n =
           record {
             depth′ = n .depth′;
             wide = n .wide;
-            goes = begun l ∙ rw o (lev-past kids (suc (suc r)) 0 (flat (suc r) next ++ ws) r (pick (eqb s′ s) r best) (omega arith) (low limit made (eqb s′ s) r best l) (v .1) ∙ n .goes);
+            goes = begun l ∙ rw o (lev-past kids (suc (suc r)) 0 (flat (suc r) next ++ ws) r (cond (eqb s′ s) r best) (omega arith) (low limit made (eqb s′ s) r best l) (v .1) ∙ n .goes);
           }
 
-      on : (mid end : ℕ) → best ≤ r → onward P r s′ ≡ true → (k : Goes kids (flat (suc r) next ++ ws) (suc r) (suc r) (pick (eqb s′ s) r best) mid) → Goes next ws r (k .depth′) mid end
+      on : (mid end : ℕ) → best ≤ r → onward P r s′ ≡ true → (k : Goes kids (flat (suc r) next ++ ws) (suc r) (suc r) (cond (eqb s′ s) r best) mid) → Goes next ws r (k .depth′) mid end
           → Goes (level s′ t b kids next) ws r depth best end
       unfolding rest
       on mid end l o k n = record { depth′ = n .depth′; wide = n .wide; goes = begun l ∙ rw o (k .goes ∙ n .goes) }
@@ -274,31 +274,31 @@ module _ (s : ℕ) (P : List ℕ) where
         → Goes f ws r depth best (levF s f p r best)
     lev-forest none lo p ws r depth best v u d h = record { depth′ = depth; wide = h; goes = unfold flat levF in refl }
     lev-forest (level s′ t b kids next) lo [] ws r depth best v u d h =
-        go (leb (suc r) best) refl (lev-forest next (suc s′) [] ws r r (pick (eqb s′ s) r best) (v .2) u d (omega arith))
+        go (leb (suc r) best) refl (lev-forest next (suc s′) [] ws r r (cond (eqb s′ s) r best) (v .2) u d (omega arith))
       where
-        go : (y : Bool) → leb (suc r) best ≡ y → Goes next ws r r (pick (eqb s′ s) r best) (levF s next [] r (pick (eqb s′ s) r best))
+        go : (y : Bool) → leb (suc r) best ≡ y → Goes next ws r r (cond (eqb s′ s) r best) (levF s next [] r (cond (eqb s′ s) r best))
             → Goes (level s′ t b kids next) ws r depth best (levF s (level s′ t b kids next) [] r best)
         go true e n = unfold levF in rw e (stopped s′ t b kids next lo r v ws u depth best h (leb-true (suc r) best e))
         go false e n =
             unfold levF in rw e (off s′ t b kids next lo r v ws u depth best h _ (omega (arith, leb-false (suc r) best e)) (not-onward r s′ d) n)
     lev-forest (level s′ t b kids next) lo (x ∷ p) ws r depth best v u d h =
         go (leb (suc r) best) refl (eqb s′ x) refl (head-of r x p d)
-        (λ q. lev-forest kids 0 p (flat (suc r) next ++ ws) (suc r) (suc r) (pick (eqb s′ s) r best) (v .1) (below-flat limit made (suc r) (suc s′) next ws (v .2) u) q (omega arith))
+        (λ q. lev-forest kids 0 p (flat (suc r) next ++ ws) (suc r) (suc r) (cond (eqb s′ s) r best) (v .1) (below-flat limit made (suc r) (suc s′) next ws (v .2) u) q (omega arith))
         (λ dep mid w. lev-forest next (suc s′) (x ∷ p) ws r dep mid (v .2) u d w)
       where
         go : (y : Bool) → leb (suc r) best ≡ y → (e : Bool) → eqb s′ x ≡ e → Head r x p
-            → (p ≡ drop (suc r) P → Goes kids (flat (suc r) next ++ ws) (suc r) (suc r) (pick (eqb s′ s) r best) (levF s kids p (suc r) (pick (eqb s′ s) r best)))
+            → (p ≡ drop (suc r) P → Goes kids (flat (suc r) next ++ ws) (suc r) (suc r) (cond (eqb s′ s) r best) (levF s kids p (suc r) (cond (eqb s′ s) r best)))
             → ((dep mid : ℕ) → r ≤ dep → Goes next ws r dep mid (levF s next (x ∷ p) r mid))
             → Goes (level s′ t b kids next) ws r depth best (levF s (level s′ t b kids next) (x ∷ p) r best)
         go true y e z hd k n = unfold levF in rw y (stopped s′ t b kids next lo r v ws u depth best h (leb-true (suc r) best y))
         go false y true z hd k n =
             let i = k (hd .later) in
             unfold levF in rw (y, z)
-            (on s′ t b kids next lo r v ws u depth best h (levF s kids p (suc r) (pick (eqb s′ s) r best)) _ (omega (arith, leb-false (suc r) best y)) (is-onward r s′ x p hd ∙ z) i
-            (n (i .depth′) (levF s kids p (suc r) (pick (eqb s′ s) r best)) (omega (arith, i .wide))))
+            (on s′ t b kids next lo r v ws u depth best h (levF s kids p (suc r) (cond (eqb s′ s) r best)) _ (omega (arith, leb-false (suc r) best y)) (is-onward r s′ x p hd ∙ z) i
+            (n (i .depth′) (levF s kids p (suc r) (cond (eqb s′ s) r best)) (omega (arith, i .wide))))
         go false y false z hd k n =
             unfold levF in rw (y, z)
-            (off s′ t b kids next lo r v ws u depth best h _ (omega (arith, leb-false (suc r) best y)) (is-onward r s′ x p hd ∙ z) (n r (pick (eqb s′ s) r best) (omega arith)))
+            (off s′ t b kids next lo r v ws u depth best h _ (omega (arith, leb-false (suc r) best y)) (is-onward r s′ x p hd ∙ z) (n r (cond (eqb s′ s) r best) (omega arith)))
 
   lev-spare : (n depth best : ℕ) → nearLevelIn s P (replicate n 0) depth best ≡ best
   unfolding nearLevelIn
@@ -317,7 +317,7 @@ level-held m hm ws ok s p =
     ap (λ (l : List ℕ). nearLevelIn s p l 0 0) (levels-are m hm ws ok) ∙ g .goes ∙ lev-spare s p z (g .depth′) (levF s f p 0 0)
     ∙ lev-near (m .components) made s f 0 p 0 0 v (omega arith) ∙ ap (nearL s f p 0) (same (hasLevel s f)) ∙ sym (near-depth s f p 0 (refuses 0 0))
   where
-    same : (h : Bool) → _≡_ {A = ℕ} (pick h 0 0) 0
+    same : (h : Bool) → _≡_ {A = ℕ} (cond h 0 0) 0
     same true = refl
     same false = refl
 
@@ -328,26 +328,26 @@ unfolding levelAt hasLevel
 child-at none n s y q = tt
 child-at (level s′ t b kids next) n s y [] = go (eqb s′ y) (single kids) (child-at next n s y [])
   where
-    single : (g : Forest) → Alike {A = Unit {0}} (andThen (levelAt (suc n) g (s ∷ [])) (λ l. gives tt)) (pick (hasLevel s g) (gives tt) (refuses 15 1))
+    single : (g : Forest) → Alike {A = Unit {0}} (andThen (levelAt (suc n) g (s ∷ [])) (λ l. gives tt)) (cond (hasLevel s g) (gives tt) (refuses 15 1))
     single none = tt
     single (level s₁ t₁ b₁ k₁ n₁) = among (eqb s₁ s) (single n₁)
       where
-        among : (e : Bool) → Alike {A = Unit {0}} (andThen (levelAt (suc n) n₁ (s ∷ [])) (λ l. gives tt)) (pick (hasLevel s n₁) (gives tt) (refuses 15 1))
-            → Alike {A = Unit {0}} (andThen (pick e (gives (record { bindings = b₁; children = k₁ })) (levelAt (suc n) n₁ (s ∷ []))) (λ l. gives tt)) (pick (pick e true (hasLevel s n₁)) (gives tt) (refuses 15 1))
+        among : (e : Bool) → Alike {A = Unit {0}} (andThen (levelAt (suc n) n₁ (s ∷ [])) (λ l. gives tt)) (cond (hasLevel s n₁) (gives tt) (refuses 15 1))
+            → Alike {A = Unit {0}} (andThen (cond e (gives (record { bindings = b₁; children = k₁ })) (levelAt (suc n) n₁ (s ∷ []))) (λ l. gives tt)) (cond (cond e true (hasLevel s n₁)) (gives tt) (refuses 15 1))
         among true i = refl
         among false i = i
 
-    go : (e : Bool) → Alike {A = Unit {0}} (andThen (levelAt (suc n) kids (s ∷ [])) (λ l. gives tt)) (pick (hasLevel s kids) (gives tt) (refuses 15 1))
+    go : (e : Bool) → Alike {A = Unit {0}} (andThen (levelAt (suc n) kids (s ∷ [])) (λ l. gives tt)) (cond (hasLevel s kids) (gives tt) (refuses 15 1))
         → Alike (andThen (levelAt n next (y ∷ s ∷ [])) (λ l. gives tt)) (andThen (levelAt n next (y ∷ [])) (askChild s))
-        → Alike (andThen (pick e (levelAt (suc n) kids (s ∷ [])) (levelAt n next (y ∷ s ∷ []))) (λ l. gives tt)) (andThen (pick e (gives (record { bindings = b; children = kids })) (levelAt n next (y ∷ []))) (askChild s))
+        → Alike (andThen (cond e (levelAt (suc n) kids (s ∷ [])) (levelAt n next (y ∷ s ∷ []))) (λ l. gives tt)) (andThen (cond e (gives (record { bindings = b; children = kids })) (levelAt n next (y ∷ []))) (askChild s))
     go true i l = i
     go false i l = l
 child-at (level s′ t b kids next) n s y (z ∷ q) = go (eqb s′ y) (child-at kids (suc n) s z q) (child-at next n s y (z ∷ q))
   where
     go : (e : Bool) → Alike (andThen (levelAt (suc n) kids (z ∷ (q ++ (s ∷ [])))) (λ l. gives tt)) (andThen (levelAt (suc n) kids (z ∷ q)) (askChild s))
         → Alike (andThen (levelAt n next (y ∷ z ∷ (q ++ (s ∷ [])))) (λ l. gives tt)) (andThen (levelAt n next (y ∷ z ∷ q)) (askChild s))
-        → Alike (andThen (pick e (levelAt (suc n) kids (z ∷ (q ++ (s ∷ [])))) (levelAt n next (y ∷ z ∷ (q ++ (s ∷ []))))) (λ l. gives tt))
-        (andThen (pick e (levelAt (suc n) kids (z ∷ q)) (levelAt n next (y ∷ z ∷ q))) (askChild s))
+        → Alike (andThen (cond e (levelAt (suc n) kids (z ∷ (q ++ (s ∷ [])))) (levelAt n next (y ∷ z ∷ (q ++ (s ∷ []))))) (λ l. gives tt))
+        (andThen (cond e (levelAt (suc n) kids (z ∷ q)) (levelAt n next (y ∷ z ∷ q))) (askChild s))
     go true i l = i
     go false i l = l
 
@@ -388,9 +388,9 @@ module _ (m : Limits) (t : Tree) (w : Whole m t) (c : Component) (ns : List Comp
       shallow : Hold (askChild (key c)) (t .levels) (keys ns) 0 d (length (keys ns)) → d .depth < m .components
       shallow h = go (ltb (d .depth) (m .components)) refl
         where
-          none-given : (g : Forest) → g ≡ none → pick (hasLevel (key c) g) (gives tt) (refuses 15 1) ≡ gives (d .value) → ⊥
+          none-given : (g : Forest) → g ≡ none → cond (hasLevel (key c) g) (gives tt) (refuses 15 1) ≡ gives (d .value) → ⊥
           none-given g q e =
-              let x : refuses 15 1 ≡ gives (d .value) = sym (ap (λ (f : Forest). pick (hasLevel (key c) f) (gives tt) (refuses 15 1)) q ∙ (unfold hasLevel in refl)) ∙ e in
+              let x : refuses 15 1 ≡ gives (d .value) = sym (ap (λ (f : Forest). cond (hasLevel (key c) f) (gives tt) (refuses 15 1)) q ∙ (unfold hasLevel in refl)) ∙ e in
               let z : _≡_ {A = ℕ} 0 1 = cc in omega arith
 
           go : (x : Bool) → ltb (d .depth) (m .components) ≡ x → d .depth < m .components
@@ -405,11 +405,11 @@ module _ (m : Limits) (t : Tree) (w : Whole m t) (c : Component) (ns : List Comp
 pub reopen-low : (depth rank : ℕ) → 0 < rank → reopened depth rank ≤ depth
 reopen-low depth rank h = go (leb rank depth) refl
   where
-    go : (e : Bool) → leb rank depth ≡ e → pick e (rank - 1) depth ≤ depth
+    go : (e : Bool) → leb rank depth ≡ e → cond e (rank - 1) depth ≤ depth
     go true e = omega (arith, leb-true rank depth e)
     go false e = omega arith
 
-pub pick-low : (e : Bool) (a b n : ℕ) → a ≤ n → b ≤ n → pick e a b ≤ n
+pub pick-low : (e : Bool) (a b n : ℕ) → a ≤ n → b ≤ n → cond e a b ≤ n
 pick-low true a b n h k = h
 pick-low false a b n h k = k
 
@@ -419,7 +419,7 @@ module _ (s : ℕ) (P ls : List ℕ) (depth best k : ℕ) (h : k < length ls) wh
   turn-stop l = sym (rw (drop-cons ls k 0 h, le-leb (rankOf (getD ls k 0)) best l))
 
   module _ (l : best < rankOf (getD ls k 0)) (d : ℕ) (e : d ≡ reopened depth (rankOf (getD ls k 0))) where
-    pub turn-child : rankOf (getD ls k 0) ≡ d + 1 → (x y : ℕ) → x ≡ pick (onward P d (segOf (getD ls k 0))) (rankOf (getD ls k 0)) d → y ≡ pick (eqb (segOf (getD ls k 0)) s) d best
+    pub turn-child : rankOf (getD ls k 0) ≡ d + 1 → (x y : ℕ) → x ≡ cond (onward P d (segOf (getD ls k 0))) (rankOf (getD ls k 0)) d → y ≡ cond (eqb (segOf (getD ls k 0)) s) d best
         → nearLevelIn s P (drop (k + 1) ls) x y ≡ nearLevelIn s P (drop k ls) depth best
     unfolding nearLevelIn
     turn-child q x y f g =

@@ -1,17 +1,17 @@
 -- One pass over the records, with their bindings beside it, finds the nearest binding.
-use mathlib.Core.Path.{_≡_, refl, ap, ap₂, sym, subst, _∙_}
-use mathlib.Core.Bool.{Bool, true, false}
+use mathlib.Core.Path.{_≡_, refl, ap, ap₂, sym, _∙_}
+use mathlib.Core.Bool.{Bool, true, false, cond}
 use mathlib.Core.List.{List, [], _∷_, _++_, append-assoc, map, map-append}
-use Prim.Native.Nat.{ℕ, zero, suc, _+_, _-_, _<_, _≤_}
+use Prim.Native.Nat.{ℕ, suc, _+_, _-_, _<_, _≤_}
 use native.Mathlib.Omega.{arith}
 use native.Mathlib.Numerals.{add-one}
-use lib.Dec.{leb, ltb, eqb}
+use lib.Dec.{ltb, eqb}
 use lib.ListN.{length, take, drop, getD, replicate, length-map, length-append, drop-of-length-le}
 use lib.Seq.{take-at, drop-at, drop-drop, drop-cons}
 use borrow.Author.Tests.{le-leb, lt-leb, eq-eqb, ne-eqb, eqb-true, eqb-false, lt-ltb, le-ltb, ltb-true, ltb-false}
-use Rattle.pkg_length.specs.Refusal.{Answer, gives, refuses, pick}
+use Rattle.pkg_length.specs.Refusal.{Answer, gives, refuses}
 use Rattle.table.specs.Limits.{Limits}
-use Rattle.table.specs.Tree.{Binding, Forest, none, level, Tree, Level, bound}
+use Rattle.table.specs.Tree.{Binding, Forest, none, level, bound}
 use Rattle.table.specs.Layout.{pack, rankOf, countOf, segOf, flat, bindWord, bindingOf}
 use Rattle.table.specs.Valid.{rising}
 use Rattle.table.specs.Memory.{wellFormed, decode}
@@ -20,10 +20,9 @@ use Rattle.table.specs.Inside.{slotIn, nearerOf, nearIn, farthest}
 use Rattle.table.specs.declared.inner.Slot.{Slot}
 use Rattle.table.specs.declared.inner.Nearest.{Nearest}
 use Rattle.table.proofs.Words.{rank-pack, count-pack, seg-pack, bindings-back}
-use Rattle.table.proofs.Shape.{LevelFit, Valid}
+use Rattle.table.proofs.Shape.{Valid}
 use Rattle.table.proofs.Decode.{Below, below-flat, below-spare}
-use Rattle.table.proofs.Whole.{Whole}
-use Rattle.table.proofs.Slots.{slot-bound, FreeAt, slot-free}
+use Rattle.table.proofs.Slots.{slot-bound, slot-free}
 use Rattle.table.proofs.Objects.{whole}
 use Rattle.table.proofs.Held.{levels-are, bindings-are}
 use Rattle.table.proofs.Near.{Deep, closer, nearF}
@@ -158,7 +157,7 @@ module _ (limit made : ℕ) (hm : made ≤ 4294967296) (s : ℕ) (bs : List ℕ)
           → nearIn s (x ∷ p) (flat (suc r) next ++ ws) bs r (m + countOf (pack (suc r) t (length b) s′) + length (bound kids)) (nearestOf out)
           ≡ nearestOf (nearF (λ l. handleIn s (l .bindings)) next (x ∷ p) r out)
           → nearIn s (x ∷ p) (pack (suc r) t (length b) s′ ∷ (flat (suc (suc r)) kids ++ (flat (suc r) next ++ ws))) bs r m (nearestOf out)
-          ≡ nearestOf (pick e (nearF (λ l. handleIn s (l .bindings)) kids p (suc r) (closer (suc r) (handleIn s b) out)) (nearF (λ l. handleIn s (l .bindings)) next (x ∷ p) r out))
+          ≡ nearestOf (cond e (nearF (λ l. handleIn s (l .bindings)) kids p (suc r) (closer (suc r) (handleIn s b) out)) (nearF (λ l. handleIn s (l .bindings)) next (x ∷ p) r out))
       go true y e f i l =
           near-down s x p _ _ bs r m (nearestOf out) rank-is (seg-is ∙ eqb-true s′ x e)
           ∙ ap (nearIn s p (flat (suc (suc r)) kids ++ (flat (suc r) next ++ ws)) bs (suc r) (m + countOf (pack (suc r) t (length b) s′)))

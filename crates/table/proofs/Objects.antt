@@ -1,21 +1,21 @@
 -- A fresh table, and objects read and set by their handles.
-use mathlib.Core.Path.{_≡_, refl, ap, ap₂, sym, subst, _∙_}
-use mathlib.Core.Bool.{Bool, true, false}
+use mathlib.Core.Path.{_≡_, refl, ap, ap₂, sym, _∙_}
+use mathlib.Core.Bool.{Bool, true, false, cond}
 use mathlib.Core.List.{List, [], _∷_, _++_, append-assoc, map}
-use Prim.Native.Nat.{ℕ, zero, suc, _+_, _-_, _<_, _≤_}
+use Prim.Native.Nat.{ℕ, suc, _+_, _-_, _<_, _≤_}
 use native.Mathlib.Omega.{arith}
-use lib.Dec.{eqb, ltb}
-use lib.ListN.{length, take, drop, getD, set, replicate, replicate-append-replicate, length-append, length-set}
+use lib.Dec.{ltb}
+use lib.ListN.{length, drop, getD, set, replicate, replicate-append-replicate, length-append, length-set}
 use lib.Seq.{getD-take, getD-drop, set-append-left}
-use borrow.Author.Tests.{eq-eqb, ne-eqb, lt-ltb, le-ltb, le-leb}
-use Rattle.pkg_length.specs.Refusal.{Answer, gives, refuses, andThen, pick}
+use borrow.Author.Tests.{lt-ltb, le-ltb}
+use Rattle.pkg_length.specs.Refusal.{gives, refuses}
 use Rattle.table.specs.Limits.{Limits}
-use Rattle.table.specs.Tree.{Forest, none, level, Tree, bound, levelCount}
+use Rattle.table.specs.Tree.{Tree, bound}
 use Rattle.table.specs.Layout.{pack, flat, pad, encode, bindWord}
-use Rattle.table.specs.Valid.{rising, levelOk, forestOk, valid}
-use Rattle.table.specs.Memory.{decode, wellFormed, means, size, Edited, Left, left, done, freshTree}
+use Rattle.table.specs.Valid.{rising, levelOk, valid}
+use Rattle.table.specs.Memory.{decode, wellFormed, means, size, left, done, freshTree}
 use Rattle.table.specs.Edits.{withObjects, valueOf, setValue}
-use Rattle.table.proofs.Shape.{clash, fit, tests-level}
+use Rattle.table.proofs.Shape.{fit, tests-level}
 use Rattle.table.proofs.Whole.{Whole, valid-whole, whole-valid}
 use Rattle.table.proofs.Memory.{levelPart, bindPart, objectPart, length-levels, length-binds, encode-parts, encode-length, formed-whole, third-head}
 
@@ -50,7 +50,7 @@ fresh-valid m h k =
       objects = omega arith;
     })
   where
-    either : (t : Bool) → pick t true true ≡ true
+    either : (t : Bool) → cond t true true ≡ true
     either true = refl
     either false = refl
 

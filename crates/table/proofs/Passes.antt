@@ -1,17 +1,16 @@
 -- What a turn of each pass over the records does: the pass to a path, and the pass over what stands below a level.
 use mathlib.Core.Path.{_≡_, refl, ap, sym, _∙_}
-use mathlib.Core.Bool.{Bool, true, false}
-use mathlib.Core.List.{List, [], _∷_, _++_}
-use Prim.Native.Nat.{ℕ, zero, suc, _+_, _*_, _<_, _≤_}
+use mathlib.Core.Bool.{Bool, true, false, cond}
+use mathlib.Core.List.{List, [], _∷_}
+use Prim.Native.Nat.{ℕ, suc, _+_, _*_, _<_, _≤_}
 use native.Mathlib.Omega.{arith}
 use native.Mathlib.Numerals.{add-one}
-use lib.Dec.{leb, ltb, eqb}
+use lib.Dec.{eqb}
 use lib.ListN.{length, take, drop, getD, drop-of-length-le, length-drop, length-take}
 use lib.Seq.{drop-cons, take-suc}
-use borrow.Author.Tests.{eq-eqb, eqb-true, eqb-false}
-use Rattle.pkg_length.specs.Refusal.{pick}
+use borrow.Author.Tests.{eqb-true, eqb-false}
 use Rattle.table.specs.Layout.{rankOf, countOf, segOf}
-use Rattle.table.specs.Inside.{Sought, here, before, missing, gone, seekIn, counts, run, subtreeEnd, placed, goneAt}
+use Rattle.table.specs.Inside.{here, gone, seekIn, counts, run, placed, goneAt}
 use Rattle.table.specs.declared.inner.Sought.{Sought as Placed}
 use Rattle.table.proofs.Seek.{seek-stop, seek-down, seek-before, seek-other, seek-deep}
 use Rattle.table.proofs.Focus.{counts-append}
@@ -39,7 +38,7 @@ gone-at ls path r j k q h = go (eqb (j + 1) (length path)) refl
     many [] d = absurd (d refl)
     many (x ∷ l) d = ap Placed.Missing q
 
-    go : (e : Bool) → eqb (j + 1) (length path) ≡ e → placed ls (gone (drop (suc j) path) r k) ≡ pick e (Placed.Before k) (Placed.Missing j)
+    go : (e : Bool) → eqb (j + 1) (length path) ≡ e → placed ls (gone (drop (suc j) path) r k) ≡ cond e (Placed.Before k) (Placed.Missing j)
     go true e = rw (drop-of-length-le path {i = suc j} (omega (arith, eqb-true (j + 1) (length path) e)))
     go false e = many (drop (suc j) path) (λ d. eqb-false (j + 1) (length path) e (omega (arith, length-drop (suc j) path)))
 

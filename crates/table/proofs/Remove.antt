@@ -1,23 +1,23 @@
 -- A level goes, with everything below it: one run of records and one run of bindings.
 use mathlib.Core.Path.{_≡_, refl, ap, ap₂, sym, subst, _∙_}
-use mathlib.Core.Bool.{Bool, true, false}
+use mathlib.Core.Bool.{Bool, true, false, cond}
 use mathlib.Core.List.{List, [], _∷_, _++_, append-assoc, map, map-append}
-use Prim.Native.Nat.{ℕ, zero, suc, _+_, _*_, _-_, _<_, _≤_}
+use Prim.Native.Nat.{ℕ, suc, _+_, _-_, _<_, _≤_}
 use native.Mathlib.Omega.{arith}
 use native.Mathlib.Nat.{add-zero}
-use lib.Dec.{ltb, eqb}
-use lib.ListN.{length, take, drop, getD, replicate, length-append, length-replicate, length-map, replicate-append-replicate}
+use lib.Dec.{eqb}
+use lib.ListN.{length, take, drop, getD, replicate, length-append, length-map, replicate-append-replicate}
 use lib.Seq.{take-at, drop-at, getD-at}
 use borrow.Author.Tests.{lt-ltb, le-ltb, lt-leb, le-leb}
-use Rattle.pkg_length.specs.Refusal.{Answer, gives, refuses, andThen, pick}
+use Rattle.pkg_length.specs.Refusal.{gives, refuses}
 use Rattle.table.specs.Limits.{Limits}
 use Rattle.table.specs.Tree.{Binding, Forest, none, level, Tree, Level, bound}
-use Rattle.table.specs.Layout.{pack, rankOf, countOf, flat, pad, bindWord}
+use Rattle.table.specs.Layout.{pack, rankOf, flat, pad, bindWord}
 use Rattle.table.specs.Valid.{some}
 use Rattle.table.specs.Edits.{levelAt, alter, without, withLevels, removeLevel}
 use Rattle.table.specs.Inside.{Sought, here, before, missing, counts, run, subtreeEnd, closed}
 use Rattle.table.proofs.Words.{rank-pack, count-pack}
-use Rattle.table.proofs.Shape.{LevelFit, Valid}
+use Rattle.table.proofs.Shape.{Valid}
 use Rattle.table.proofs.Decode.{Below, below-flat, below-spare}
 use Rattle.table.proofs.Whole.{Whole, length-words}
 use Rattle.table.proofs.Seek.{seekF, lacking, lacks}
@@ -252,7 +252,7 @@ module _ (m : Limits) (t : Tree) (w : Whole m t) (p : List ℕ) (j : ℕ) (f : F
       root-stays (level s′ t b kids next) (x ∷ []) h k = absurd (omega arith)
       root-stays (level s′ t b kids next) (x ∷ y ∷ q) h k = unfold alter in go (eqb s′ x)
         where
-          go : (e : Bool) → some (pick e (level s′ t b (alter without kids (y ∷ q)) next) (level s′ t b kids (alter without next (x ∷ y ∷ q)))) ≡ true
+          go : (e : Bool) → some (cond e (level s′ t b (alter without kids (y ∷ q)) next) (level s′ t b kids (alter without next (x ∷ y ∷ q)))) ≡ true
           go true = refl
           go false = refl
 

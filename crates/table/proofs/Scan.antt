@@ -1,19 +1,16 @@
 -- One record of the pass that tests memory.
-use mathlib.Core.Path.{_≡_, refl, ap, sym, subst, _∙_}
-use mathlib.Core.Bool.{Bool, true, false}
-use mathlib.Core.List.{List, [], _∷_, _++_, map}
-use Prim.Native.Nat.{ℕ, zero, suc, _+_, _-_, _<_, _≤_}
+use mathlib.Core.Path.{_≡_, _∙_}
+use mathlib.Core.Bool.{true, false, cond}
+use mathlib.Core.List.{List, _∷_, map}
+use Prim.Native.Nat.{ℕ, _+_, _≤_}
 use native.Mathlib.Omega.{arith}
-use lib.Dec.{leb, ltb, eqb}
-use lib.ListN.{length, take, drop, getD, set, length-map}
+use lib.Dec.{leb}
+use lib.ListN.{length, take, drop, getD, length-map}
 use lib.Seq.{length-take-le}
 use borrow.Author.Tests.{le-leb, eq-eqb, ne-eqb, leb-true}
-use Rattle.pkg_length.specs.Refusal.{pick}
 use Rattle.name_object.specs.Memory.{allZero}
 use Rattle.name_object.proofs.Paths.{both}
-use Rattle.table.specs.Tree.{Binding}
 use Rattle.table.specs.Layout.{rankOf, typeOf, countOf, segOf, bindingOf}
-use Rattle.table.specs.Valid.{rising, levelOk}
 use Rattle.table.specs.Inside.{wordOk, bindsOk, recordOk, noted, scan}
 use Rattle.table.proofs.Shape.{LevelFit, fit}
 
@@ -27,7 +24,7 @@ taken : (n : ℕ) (bs : List ℕ) → n ≤ length bs → length (map bindingOf 
 taken n bs h = length-map (take n bs) bindingOf ∙ length-take-le n bs h
 
 module _ (limit made p : ℕ) (low : List ℕ) (w : ℕ) (ws bs : List ℕ) where
-  pub scan-zero : w ≡ 0 → scan limit made p low (w ∷ ws) bs ≡ pick (allZero ws) (allZero bs) false
+  pub scan-zero : w ≡ 0 → scan limit made p low (w ∷ ws) bs ≡ cond (allZero ws) (allZero bs) false
   unfolding scan
   scan-zero e = rw (eq-eqb w 0 e)
 

@@ -1,19 +1,19 @@
 -- Where a path leads: over the tree, and over the words in one pass, the same.
-use mathlib.Core.Path.{_≡_, refl, ap, sym, _∙_}
-use mathlib.Core.Bool.{Bool, true, false}
+use mathlib.Core.Path.{_≡_, refl, ap, _∙_}
+use mathlib.Core.Bool.{Bool, true, false, cond}
 use mathlib.Core.List.{List, [], _∷_, _++_, append-assoc}
-use Prim.Native.Nat.{ℕ, zero, suc, _+_, _<_, _≤_}
+use Prim.Native.Nat.{ℕ, suc, _+_, _<_, _≤_}
 use native.Mathlib.Omega.{arith}
-use lib.Dec.{leb, ltb, eqb}
+use lib.Dec.{ltb, eqb}
 use lib.ListN.{length, length-append}
 use borrow.Author.Tests.{le-leb, lt-leb, eq-eqb, ne-eqb, eqb-true, eqb-false, lt-ltb, le-ltb, ltb-true, ltb-false}
-use Rattle.pkg_length.specs.Refusal.{Answer, gives, refuses, pick}
-use Rattle.table.specs.Tree.{Binding, Forest, none, level, Level}
+use Rattle.pkg_length.specs.Refusal.{Answer, gives, refuses}
+use Rattle.table.specs.Tree.{Forest, none, level, Level}
 use Rattle.table.specs.Layout.{pack, rankOf, segOf, flat}
 use Rattle.table.specs.Edits.{levelAt}
 use Rattle.table.specs.Inside.{Sought, here, before, missing, gone, seekIn}
 use Rattle.table.proofs.Words.{rank-pack, seg-pack}
-use Rattle.table.proofs.Shape.{LevelFit, Valid}
+use Rattle.table.proofs.Shape.{Valid}
 use Rattle.table.proofs.Decode.{Below, below-flat}
 
 -- the index past a forest's records, the first of which stands at k
@@ -33,7 +33,7 @@ seekF none [] r at k = here at
 seekF none (s ∷ p) r at k = gone p r k
 seekF (level s′ t b kids next) [] r at k = here at
 seekF (level s′ t b kids next) (s ∷ p) r at k =
-    pick (eqb s′ s) (seekF kids p (suc r) k (suc k)) (pick (ltb s s′) (gone p r k) (seekF next (s ∷ p) r at (after kids (suc k))))
+    cond (eqb s′ s) (seekF kids p (suc r) k (suc k)) (cond (ltb s s′) (gone p r k) (seekF next (s ∷ p) r at (after kids (suc k))))
 
 pub seek-nil : (f : Forest) (r at k : ℕ) → seekF f [] r at k ≡ here at
 unfolding seekF
@@ -90,7 +90,7 @@ module _ (limit made : ℕ) where
     seg-is = seg-pack (suc r) t n s′ ht hn hs
 
     seek-apart : (e : Bool) → ltb s s′ ≡ e → (s′ ≡ s → ⊥)
-        → seekIn (s ∷ p) (pack (suc r) t n s′ ∷ (flat (suc (suc r)) kids ++ X)) r at k ≡ pick e (gone p r k) B
+        → seekIn (s ∷ p) (pack (suc r) t n s′ ∷ (flat (suc (suc r)) kids ++ X)) r at k ≡ cond e (gone p r k) B
     seek-apart true e d = seek-before s p _ _ r at k rank-is (rw seg-is (ltb-true s s′ e))
     seek-apart false e d =
         seek-other s p _ _ r at k rank-is (rw seg-is (omega (arith, ltb-false s s′ e, d)))
@@ -98,7 +98,7 @@ module _ (limit made : ℕ) where
         ∙ later
 
     seek-here : (e : Bool) → eqb s′ s ≡ e
-        → seekIn (s ∷ p) (pack (suc r) t n s′ ∷ (flat (suc (suc r)) kids ++ X)) r at k ≡ pick e A (pick (ltb s s′) (gone p r k) B)
+        → seekIn (s ∷ p) (pack (suc r) t n s′ ∷ (flat (suc (suc r)) kids ++ X)) r at k ≡ cond e A (cond (ltb s s′) (gone p r k) B)
     seek-here true e = seek-down s p _ _ r at k rank-is (seg-is ∙ eqb-true s′ s e) ∙ inside
     seek-here false e = seek-apart (ltb s s′) refl (eqb-false s′ s e)
 
@@ -155,8 +155,8 @@ module _ (limit made : ℕ) where
   lacks (level s′ t b kids next) r lo s [] at k v = go (lacks next r (suc s′) s [] at (after kids (suc k)) (v .2)) (eqb s′ s) (ltb s s′) refl
     where
       go : lacking r [] (seekF next (s ∷ []) r at (after kids (suc k))) (levelAt r next (s ∷ [])) → (e d : Bool) → ltb s s′ ≡ d
-          → lacking r [] (pick e (seekF kids [] (suc r) k (suc k)) (pick d (gone [] r k) (seekF next (s ∷ []) r at (after kids (suc k)))))
-          (pick e (gives (record { bindings = b; children = kids })) (levelAt r next (s ∷ [])))
+          → lacking r [] (cond e (seekF kids [] (suc r) k (suc k)) (cond d (gone [] r k) (seekF next (s ∷ []) r at (after kids (suc k)))))
+          (cond e (gives (record { bindings = b; children = kids })) (levelAt r next (s ∷ [])))
       go l true d h = rw (seek-nil kids (suc r) k (suc k)) tt
       go l false true h = lacking-gone [] r k (levelAt r next (s ∷ [])) (late limit made next (suc r) (suc s′) r s [] (v .2) (omega (arith, ltb-true s s′ h)))
       go l false false h = l
@@ -165,8 +165,8 @@ module _ (limit made : ℕ) where
     where
       go : lacking (suc r) p (seekF kids (x ∷ p) (suc r) k (suc k)) (levelAt (suc r) kids (x ∷ p))
           → lacking r (x ∷ p) (seekF next (s ∷ x ∷ p) r at (after kids (suc k))) (levelAt r next (s ∷ x ∷ p)) → (e d : Bool) → ltb s s′ ≡ d
-          → lacking r (x ∷ p) (pick e (seekF kids (x ∷ p) (suc r) k (suc k)) (pick d (gone (x ∷ p) r k) (seekF next (s ∷ x ∷ p) r at (after kids (suc k)))))
-          (pick e (levelAt (suc r) kids (x ∷ p)) (levelAt r next (s ∷ x ∷ p)))
+          → lacking r (x ∷ p) (cond e (seekF kids (x ∷ p) (suc r) k (suc k)) (cond d (gone (x ∷ p) r k) (seekF next (s ∷ x ∷ p) r at (after kids (suc k)))))
+          (cond e (levelAt (suc r) kids (x ∷ p)) (levelAt r next (s ∷ x ∷ p)))
       go i l true d h = lacking-deeper r x p (seekF kids (x ∷ p) (suc r) k (suc k)) (levelAt (suc r) kids (x ∷ p)) i
       go i l false true h = lacking-gone (x ∷ p) r k (levelAt r next (s ∷ x ∷ p)) (late limit made next (suc r) (suc s′) r s (x ∷ p) (v .2) (omega (arith, ltb-true s s′ h)))
       go i l false false h = l
@@ -198,16 +198,16 @@ unfolding seekF
 shorter none r s p x q at k = shorter-gone p x q r k
 shorter (level s′ t b kids next) r s [] x q at k = go (shorter next r s [] x q at (after kids (suc k))) (eqb s′ s) (ltb s s′)
   where
-    go : Shorter r [] (seekF next (s ∷ []) r at (after kids (suc k))) (seekF next (s ∷ x ∷ q) r at (after kids (suc k))) → (e d : Bool) → Shorter r [] (pick e (seekF kids [] (suc r) k (suc k)) (pick d (gone [] r k) (seekF next (s ∷ []) r at (after kids (suc k)))))
-        (pick e (seekF kids (x ∷ q) (suc r) k (suc k)) (pick d (gone (x ∷ q) r k) (seekF next (s ∷ x ∷ q) r at (after kids (suc k)))))
+    go : Shorter r [] (seekF next (s ∷ []) r at (after kids (suc k))) (seekF next (s ∷ x ∷ q) r at (after kids (suc k))) → (e d : Bool) → Shorter r [] (cond e (seekF kids [] (suc r) k (suc k)) (cond d (gone [] r k) (seekF next (s ∷ []) r at (after kids (suc k)))))
+        (cond e (seekF kids (x ∷ q) (suc r) k (suc k)) (cond d (gone (x ∷ q) r k) (seekF next (s ∷ x ∷ q) r at (after kids (suc k)))))
     go l true d = rw (seek-nil kids (suc r) k (suc k)) tt
     go l false true = shorter-gone [] x q r k
     go l false false = l
 shorter (level s′ t b kids next) r s (y ∷ p) x q at k = go (shorter kids (suc r) y p x q k (suc k)) (shorter next r s (y ∷ p) x q at (after kids (suc k))) (eqb s′ s) (ltb s s′)
   where
     go : Shorter (suc r) p (seekF kids (y ∷ p) (suc r) k (suc k)) (seekF kids (y ∷ (p ++ (x ∷ q))) (suc r) k (suc k))
-        → Shorter r (y ∷ p) (seekF next (s ∷ y ∷ p) r at (after kids (suc k))) (seekF next (s ∷ y ∷ (p ++ (x ∷ q))) r at (after kids (suc k))) → (e d : Bool) → Shorter r (y ∷ p) (pick e (seekF kids (y ∷ p) (suc r) k (suc k)) (pick d (gone (y ∷ p) r k) (seekF next (s ∷ y ∷ p) r at (after kids (suc k)))))
-        (pick e (seekF kids (y ∷ (p ++ (x ∷ q))) (suc r) k (suc k)) (pick d (gone (y ∷ (p ++ (x ∷ q))) r k) (seekF next (s ∷ y ∷ (p ++ (x ∷ q))) r at (after kids (suc k)))))
+        → Shorter r (y ∷ p) (seekF next (s ∷ y ∷ p) r at (after kids (suc k))) (seekF next (s ∷ y ∷ (p ++ (x ∷ q))) r at (after kids (suc k))) → (e d : Bool) → Shorter r (y ∷ p) (cond e (seekF kids (y ∷ p) (suc r) k (suc k)) (cond d (gone (y ∷ p) r k) (seekF next (s ∷ y ∷ p) r at (after kids (suc k)))))
+        (cond e (seekF kids (y ∷ (p ++ (x ∷ q))) (suc r) k (suc k)) (cond d (gone (y ∷ (p ++ (x ∷ q))) r k) (seekF next (s ∷ y ∷ (p ++ (x ∷ q))) r at (after kids (suc k)))))
     go i l true d = shorter-deeper r y p (seekF kids (y ∷ p) (suc r) k (suc k)) (seekF kids (y ∷ (p ++ (x ∷ q))) (suc r) k (suc k)) i
     go i l false true = shorter-gone (y ∷ p) x q r k
     go i l false false = l

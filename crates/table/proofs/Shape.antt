@@ -1,14 +1,13 @@
 -- What the tests of a tree say, as facts that proofs take apart.
-use mathlib.Core.Path.{_≡_, refl, ap, sym, _∙_}
-use mathlib.Core.Bool.{Bool, true, false}
-use mathlib.Core.List.{List, [], _∷_}
-use Prim.Native.Nat.{ℕ, zero, suc, _+_, _*_, _/_, _%_, _<_, _≤_}
+use mathlib.Core.Path.{_≡_, refl}
+use mathlib.Core.Bool.{Bool, true, false, cond}
+use mathlib.Core.List.{List}
+use Prim.Native.Nat.{ℕ, suc, _/_, _<_, _≤_}
 use native.Mathlib.Omega.{arith}
 use lib.Dec.{leb, ltb, eqb}
 use lib.ListN.{length}
-use borrow.Author.Tests.{ltb-true, leb-true, eqb-true, eqb-false, lt-ltb, le-leb, ne-eqb}
-use Rattle.pkg_length.specs.Refusal.{pick}
-use Rattle.name_object.specs.Component.{leadOk, charOk, segOk}
+use borrow.Author.Tests.{ltb-true, leb-true, eqb-true, lt-ltb, le-leb}
+use Rattle.name_object.specs.Component.{leadOk, segOk}
 use Rattle.name_object.proofs.Paths.{both}
 use Rattle.table.specs.Tree.{Binding, Forest, none, level}
 use Rattle.table.specs.Valid.{segmentOk, rising, nameOk, countOk, levelOk, forestOk}
@@ -20,7 +19,7 @@ lead-high : (b : ℕ) → leadOk b ≡ true → (64 < b) × (b < 96)
 unfolding leadOk
 lead-high b h = go (eqb b 0x5F) refl h
   where
-    go : (t : Bool) → eqb b 0x5F ≡ t → pick t true (pick (leb 0x41 b) (leb b 0x5A) false) ≡ true → (64 < b) × (b < 96)
+    go : (t : Bool) → eqb b 0x5F ≡ t → cond t true (cond (leb 0x41 b) (leb b 0x5A) false) ≡ true → (64 < b) × (b < 96)
     go true e k = omega (arith, eqb-true b 0x5F e)
     go false e k = let g = both (leb 0x41 b) (leb b 0x5A) k in omega (arith, leb-true 0x41 b (g .0), leb-true b 0x5A (g .1))
 
@@ -41,14 +40,14 @@ pub record LevelFit (limit made r lo s t : ℕ) (b : List Binding) : Type 0 wher
 name-range : (r s t : ℕ) → nameOk r s t ≡ true → (s < 4294967296) × (t < 8)
 name-range r s t h = go (eqb r 1) h
   where
-    go : (x : Bool) → pick x (pick (eqb s 0) (eqb t 0) false) (pick (segmentOk s) (ltb t 6) false) ≡ true → (s < 4294967296) × (t < 8)
+    go : (x : Bool) → cond x (cond (eqb s 0) (eqb t 0) false) (cond (segmentOk s) (ltb t 6) false) ≡ true → (s < 4294967296) × (t < 8)
     go true h = let g = both (eqb s 0) (eqb t 0) h in omega (arith, eqb-true s 0 (g .0), eqb-true t 0 (g .1))
     go false h = let g = both (segmentOk s) (ltb t 6) h in omega (arith, segment-range s (g .0), ltb-true t 6 (g .1))
 
 count-range : (limit r n : ℕ) → countOk limit r n ≡ true → n < 1024
 count-range limit r n h = go (ltb r limit) h
   where
-    go : (x : Bool) → pick x (ltb n 1024) (eqb n 0) ≡ true → n < 1024
+    go : (x : Bool) → cond x (ltb n 1024) (eqb n 0) ≡ true → n < 1024
     go true h = ltb-true n 1024 h
     go false h = omega (arith, eqb-true n 0 h)
 

@@ -1,15 +1,15 @@
 -- A segment among a level's bindings: the pass finds what the definitions say, and where a new binding goes.
-use mathlib.Core.Path.{_≡_, refl, ap, ap₂, sym, subst, _∙_}
-use mathlib.Core.Bool.{Bool, true, false}
+use mathlib.Core.Path.{_≡_, refl, ap, sym, _∙_}
+use mathlib.Core.Bool.{Bool, true, false, cond}
 use mathlib.Core.List.{List, [], _∷_, _++_, map}
-use Prim.Native.Nat.{ℕ, zero, suc, _+_, _-_, _/_, _%_, _<_, _≤_}
+use Prim.Native.Nat.{ℕ, suc, _+_, _/_, _%_, _<_, _≤_}
 use native.Mathlib.Omega.{arith}
 use native.Mathlib.Numerals.{add-one}
 use lib.Dec.{leb, ltb, eqb}
 use lib.ListN.{length, take, drop, getD}
 use lib.Seq.{slice, slice-cons, slice-empty, take-add, drop-at, length-take-le}
-use borrow.Author.Tests.{ltb-true, ltb-false, leb-true, eqb-true, eqb-false, lt-ltb, le-ltb, le-leb, eq-eqb, ne-eqb}
-use Rattle.pkg_length.specs.Refusal.{Answer, gives, refuses, pick}
+use borrow.Author.Tests.{ltb-true, ltb-false, leb-true, eqb-false, lt-ltb, le-ltb, le-leb, eq-eqb, ne-eqb}
+use Rattle.pkg_length.specs.Refusal.{gives, refuses}
 use Rattle.name_object.proofs.Paths.{both}
 use Rattle.table.specs.Tree.{Binding}
 use Rattle.table.specs.Layout.{bindingOf}
@@ -17,7 +17,6 @@ use Rattle.table.specs.Valid.{segmentOk, rising}
 use Rattle.table.specs.Edits.{handleIn, isBound, insertBinding}
 use Rattle.table.specs.Inside.{slotIn}
 use Rattle.table.specs.declared.inner.Slot.{Slot}
-use Rattle.table.proofs.Shape.{clash}
 
 -- the tests of one binding, taken apart
 pub record BindingTests (made lo : ℕ) (b : Binding) (bs : List Binding) : Type 0 where
@@ -56,8 +55,8 @@ module _ (s : ℕ) where
   slot-bound (b ∷ bs) i h e = go (slot-bound bs (suc i) h) (eqb (b .segment) s) (ltb s (b .segment)) e
     where
       go : (slotIn s bs (suc i) ≡ Slot.Bound h → (handleIn s bs ≡ gives h) × (isBound s bs ≡ true))
-          → (x y : Bool) → pick x (Slot.Bound (b .handle)) (pick y (Slot.Free i) (slotIn s bs (suc i))) ≡ Slot.Bound h
-          → (pick x (gives (b .handle)) (handleIn s bs) ≡ gives h) × (pick x true (isBound s bs) ≡ true)
+          → (x y : Bool) → cond x (Slot.Bound (b .handle)) (cond y (Slot.Free i) (slotIn s bs (suc i))) ≡ Slot.Bound h
+          → (cond x (gives (b .handle)) (handleIn s bs) ≡ gives h) × (cond x true (isBound s bs) ≡ true)
       go f true y e = (let d : b .handle ≡ h = cc in ap gives d, refl)
       go f false true e = bound-free (sym e)
       go f false false e = f e
@@ -71,7 +70,7 @@ module _ (s : ℕ) where
       go (t .live) (slot-live made (suc (b .segment)) bs (suc i) h (t .later)) (eqb (b .segment) s) (ltb s (b .segment)) e
     where
       go : b .handle < made → (slotIn s bs (suc i) ≡ Slot.Bound h → h < made)
-          → (x y : Bool) → pick x (Slot.Bound (b .handle)) (pick y (Slot.Free i) (slotIn s bs (suc i))) ≡ Slot.Bound h → h < made
+          → (x y : Bool) → cond x (Slot.Bound (b .handle)) (cond y (Slot.Free i) (slotIn s bs (suc i))) ≡ Slot.Bound h → h < made
       go l f true y e = let d : b .handle ≡ h = cc in omega arith
       go l f false true e = bound-free (sym e)
       go l f false false e = f e
@@ -117,7 +116,7 @@ module _ (s : ℕ) where
       same = ap (λ (n : ℕ). ltb n (b .segment)) q
 
       go : BindingTests made lo b bs → (slotIn s bs (suc i) ≡ Slot.Free j → FreeAt made (suc (b .segment)) x bs (suc i) j)
-          → (c d : Bool) → eqb (b .segment) s ≡ c → ltb s (b .segment) ≡ d → pick c (Slot.Bound (b .handle)) (pick d (Slot.Free i) (slotIn s bs (suc i))) ≡ Slot.Free j
+          → (c d : Bool) → eqb (b .segment) s ≡ c → ltb s (b .segment) ≡ d → cond c (Slot.Bound (b .handle)) (cond d (Slot.Free i) (slotIn s bs (suc i))) ≡ Slot.Free j
           → FreeAt made lo x (b ∷ bs) i j
       go t f true d p y e = bound-free e
       go t f false true p y e =

@@ -1,17 +1,16 @@
 -- Words that the pass takes are what a valid forest is written as.
 use mathlib.Core.Path.{_≡_, refl, ap, ap₂, sym, subst, _∙_}
 use mathlib.Core.Bool.{Bool, true, false}
-use mathlib.Core.List.{List, [], _∷_, _++_, append-assoc, append-nil, map, map-append}
+use mathlib.Core.List.{List, [], _∷_, _++_, append-assoc, map, map-append}
 use mathlib.Core.Logic.{_⊎_, inl, inr, ⊎-elim}
 use Prim.Native.Nat.{ℕ, zero, suc, _+_, _-_, _<_, _≤_}
 use native.Mathlib.Omega.{arith}
 use native.Mathlib.Nat.{zero-add, suc-add, eq-or-lt-of-le}
 use native.Mathlib.Numerals.{add-one}
-use lib.Dec.{leb, ltb, eqb}
+use lib.Dec.{ltb, eqb}
 use lib.ListN.{length, take, drop, getD, set, replicate, length-set, take-append-drop, length-map}
 use lib.Seq.{getD-set-same, getD-set-other, length-take-le}
 use borrow.Author.Tests.{eqb-true, eqb-false, ltb-true, ltb-false}
-use Rattle.pkg_length.specs.Refusal.{pick}
 use Rattle.name_object.specs.Memory.{allZero}
 use Rattle.name_object.proofs.Paths.{both}
 use Rattle.table.specs.Tree.{Binding, Forest, none, level, bound}
@@ -19,7 +18,7 @@ use Rattle.table.specs.Layout.{pack, rankOf, typeOf, countOf, segOf, bin
 use Rattle.table.specs.Memory.{siblings}
 use Rattle.table.specs.Inside.{noted, scan}
 use Rattle.table.proofs.Words.{pack-unpack, words-back, map-take, map-drop}
-use Rattle.table.proofs.Shape.{LevelFit, Valid}
+use Rattle.table.proofs.Shape.{Valid}
 use Rattle.table.proofs.Decode.{deeper, here, above}
 use Rattle.table.proofs.Scan.{Passes, scan-zero, scan-true}
 

@@ -1,14 +1,13 @@
 -- Where a path's last segment is bound or would be, over the words: what the code's pass tells.
-use mathlib.Core.Path.{_≡_, refl, ap, ap₂, sym, subst, _∙_}
-use mathlib.Core.Bool.{Bool, true, false}
-use mathlib.Core.List.{List, [], _∷_, _++_, map}
+use mathlib.Core.Path.{_≡_, refl, ap, sym, _∙_}
+use mathlib.Core.Bool.{Bool, true, false, cond}
+use mathlib.Core.List.{List, [], _∷_, map}
 use Prim.Native.Nat.{ℕ, zero, suc, _+_, _-_, _<_, _≤_}
 use native.Mathlib.Omega.{arith}
 use lib.Dec.{leb, ltb, eqb}
 use lib.ListN.{length, take, drop, getD, replicate}
 use lib.Seq.{length-take-le}
 use borrow.Author.Tests.{lt-leb, le-leb}
-use Rattle.pkg_length.specs.Refusal.{pick}
 use Rattle.pkg_length.specs.declared.AmlError.{AmlError}
 use Rattle.table.specs.Layout.{rankOf, countOf, segOf, bindingOf}
 use Rattle.table.specs.Edits.{scopeOf, lastOf}
@@ -16,7 +15,6 @@ use Rattle.table.specs.Inside.{Sought, here, before, missing, gone, seek
 use Rattle.table.specs.declared.inner.Sought.{Sought as Placed}
 use Rattle.table.specs.declared.inner.Slot.{Slot}
 use Rattle.table.specs.declared.inner.Spot.{Spot}
-use Rattle.table.proofs.Focus.{counts-append}
 use Rattle.table.proofs.LevelCalls.{placed-here, placed-before, placed-missing}
 
 -- a record that is found is among the words
@@ -38,7 +36,7 @@ inside (w ∷ ws) (s ∷ p) r at k j h e =
     more l = omega arith
 
     go : (seekIn p ws (suc r) k (suc k) ≡ here j → j < k + suc (length ws)) → (seekIn (s ∷ p) ws r at (suc k) ≡ here j → j < k + suc (length ws))
-        → (a b c d : Bool) → pick a (gone p r k) (pick b (pick c (seekIn p ws (suc r) k (suc k)) (pick d (gone p r k) (seekIn (s ∷ p) ws r at (suc k)))) (seekIn (s ∷ p) ws r at (suc k))) ≡ here j
+        → (a b c d : Bool) → cond a (gone p r k) (cond b (cond c (seekIn p ws (suc r) k (suc k)) (cond d (gone p r k) (seekIn (s ∷ p) ws r at (suc k)))) (seekIn (s ∷ p) ws r at (suc k))) ≡ here j
         → j < k + suc (length ws)
     go f g true b c d e = gone-not p r k j e
     go f g false true true d e = f e
@@ -59,7 +57,7 @@ inside-all (w ∷ ws) (s ∷ p) j h e =
     more l = omega arith
 
     go : (seekIn p ws 1 0 1 ≡ here j → j < suc (length ws)) → (seekIn (s ∷ p) ws 0 0 1 ≡ here j → j < suc (length ws))
-        → (a b c d : Bool) → pick a (gone p 0 0) (pick b (pick c (seekIn p ws 1 0 1) (pick d (gone p 0 0) (seekIn (s ∷ p) ws 0 0 1))) (seekIn (s ∷ p) ws 0 0 1)) ≡ here j
+        → (a b c d : Bool) → cond a (gone p 0 0) (cond b (cond c (seekIn p ws 1 0 1) (cond d (gone p 0 0) (seekIn (s ∷ p) ws 0 0 1))) (seekIn (s ∷ p) ws 0 0 1)) ≡ here j
         → j < suc (length ws)
     go f g true b c d e = gone-not p 0 0 j e
     go f g false true true d e = f e

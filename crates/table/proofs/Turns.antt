@@ -1,21 +1,19 @@
 -- What a turn of each loop of the test of memory does, over the list that is left.
 use mathlib.Core.Path.{_≡_, refl, ap, sym, _∙_}
-use mathlib.Core.Bool.{Bool, true, false}
-use mathlib.Core.List.{List, [], _∷_, _++_, map, append-assoc}
+use mathlib.Core.Bool.{true, false, cond}
+use mathlib.Core.List.{List, [], _∷_, _++_, map}
 use Prim.Native.Nat.{ℕ, suc, _+_, _-_, _/_, _%_, _<_, _≤_}
 use native.Mathlib.Omega.{arith}
 use native.Mathlib.Numerals.{add-one}
-use native.Mathlib.Nat.{sub-eq-zero-of-le}
-use lib.Dec.{leb, ltb, eqb}
-use lib.ListN.{length, take, drop, getD, set, replicate, length-take, length-drop, drop-of-length-le}
+use lib.Dec.{leb}
+use lib.ListN.{length, take, drop, getD, set, replicate, length-drop, drop-of-length-le}
 use lib.Seq.{drop-cons, slice, slice-cons, slice-empty, take-add, drop-at, length-take-le, drop-drop, take-suc-set, take-all}
 use borrow.Author.Tests.{le-leb, lt-leb, lt-ltb, le-ltb, eq-eqb, ne-eqb, leb-true}
-use Rattle.pkg_length.specs.Refusal.{pick}
 use Rattle.name_object.specs.Memory.{allZero}
 use Rattle.name_object.proofs.Paths.{both}
 use Rattle.table.specs.Limits.{Limits}
 use Rattle.table.specs.Layout.{rankOf, typeOf, countOf, segOf, bindingOf}
-use Rattle.table.specs.Valid.{segmentOk, rising, levelOk}
+use Rattle.table.specs.Valid.{segmentOk, rising}
 use Rattle.table.specs.Inside.{wordOk, bindsOk, recordOk, noted, scan, objectsOk, partsOk, lowest}
 use Rattle.table.proofs.Shape.{level-tests}
 
@@ -91,7 +89,7 @@ module _ (limit made p : ℕ) (low : List ℕ) (w f : ℕ) (l : List ℕ) (h : r
 
 -- the pass over the records
 module _ (limit made p : ℕ) (low ws : List ℕ) (k : ℕ) (bs : List ℕ) (m : ℕ) (h : k < length ws) where
-  pub turn-zero : getD ws k 0 ≡ 0 → scan limit made p low (drop k ws) (drop m bs) ≡ pick (allZero (drop (k + 1) ws)) (allZero (drop m bs)) false
+  pub turn-zero : getD ws k 0 ≡ 0 → scan limit made p low (drop k ws) (drop m bs) ≡ cond (allZero (drop (k + 1) ws)) (allZero (drop m bs)) false
   unfolding scan
   turn-zero z = rw (add-one k, drop-cons ws k 0 h, eq-eqb (getD ws k 0) 0 z)
 
@@ -111,9 +109,9 @@ turn-end limit made p low ws k bs h = rw (drop-of-length-le ws h)
 
 -- the objects' part
 module _ (m : Limits) (ls bs os : List ℕ) (h : 0 < length os) where
-  objects-at : objectsOk (m .objects) os ≡ pick (leb (getD os 0 0) (m .objects)) (allZero (drop (getD os 0 0 + 1) os)) false
+  objects-at : objectsOk (m .objects) os ≡ cond (leb (getD os 0 0) (m .objects)) (allZero (drop (getD os 0 0 + 1) os)) false
   unfolding objectsOk
-  objects-at = ap (objectsOk (m .objects)) (drop-cons os 0 0 h) ∙ ap (λ (l : List ℕ). pick (leb (getD os 0 0) (m .objects)) (allZero l) false) (drop-drop (getD os 0 0) 1 os ∙ ap (λ (n : ℕ). drop n os) (swap (getD os 0 0)))
+  objects-at = ap (objectsOk (m .objects)) (drop-cons os 0 0 h) ∙ ap (λ (l : List ℕ). cond (leb (getD os 0 0) (m .objects)) (allZero l) false) (drop-drop (getD os 0 0) 1 os ∙ ap (λ (n : ℕ). drop n os) (swap (getD os 0 0)))
     where
       swap : (n : ℕ) → 1 + n ≡ n + 1
       swap n = omega arith

@@ -1,25 +1,23 @@
 -- The three parts of memory hold a valid tree exactly when they pass the test.
 use mathlib.Core.Path.{_≡_, refl, ap, ap₂, sym, subst, _∙_}
-use mathlib.Core.Bool.{Bool, true, false}
-use mathlib.Core.List.{List, [], _∷_, _++_, append-assoc, append-nil, map, map-append}
-use Prim.Native.Nat.{ℕ, zero, suc, _+_, _-_, _<_, _≤_}
+use mathlib.Core.Bool.{Bool, true, false, cond}
+use mathlib.Core.List.{List, [], _∷_, _++_, append-nil, map}
+use Prim.Native.Nat.{ℕ, zero, suc, _+_, _-_, _≤_}
 use native.Mathlib.Omega.{arith}
 use lib.Dec.{eqb, leb}
 use lib.ListN.{length, take, drop, getD, replicate, length-append, length-replicate, length-map, take-append-drop}
-use lib.Seq.{take-at, drop-at, length-take-le}
-use borrow.Author.Tests.{eq-eqb, ne-eqb, le-leb, eqb-true, eqb-false, leb-true}
-use Rattle.pkg_length.specs.Refusal.{pick}
+use lib.Seq.{drop-at, length-take-le}
+use borrow.Author.Tests.{ne-eqb, le-leb, eqb-false, leb-true}
 use Rattle.name_object.specs.Memory.{allZero}
 use Rattle.name_object.proofs.Paths.{both}
 use Rattle.table.specs.Limits.{Limits}
 use Rattle.table.specs.Tree.{Binding, Forest, none, level, Tree, bound, levelCount}
-use Rattle.table.specs.Layout.{pack, rankOf, bindWord, bindingOf, flat, pad}
+use Rattle.table.specs.Layout.{pack, bindWord, flat, pad}
 use Rattle.table.specs.Valid.{forestOk, some, valid}
 use Rattle.table.specs.Inside.{scan, lowest, objectsOk, partsOk}
-use Rattle.table.proofs.Words.{bindings-back}
-use Rattle.table.proofs.Shape.{clash, LevelFit, Valid, forest-valid, valid-forest}
+use Rattle.table.proofs.Shape.{clash, Valid, forest-valid, valid-forest}
 use Rattle.table.proofs.Sound.{sibs, unwind, unwindB, Good, sound, zeros-are}
-use Rattle.table.proofs.Complete.{After, complete, zeros-spare, scan-spare}
+use Rattle.table.proofs.Complete.{complete, zeros-spare, scan-spare}
 
 pub level-count : (f : Forest) (r : ℕ) → length (flat r f) ≡ levelCount f
 unfolding flat levelCount
@@ -149,12 +147,12 @@ module _ (m : Limits) (ls bs : List ℕ) (ll : length ls ≡ m .levels) (lb : le
   unfolding partsOk objectsOk
   parts-held [] lo h = absurd (let z : _≡_ {A = ℕ} 0 1 = cc in omega arith)
   parts-held (n ∷ vs) lo h =
-      let a = both (pick (leb n (m .objects)) (allZero (drop n vs)) false) _ h in
+      let a = both (cond (leb n (m .objects)) (allZero (drop n vs)) false) _ h in
       let b = both (leb n (m .objects)) (allZero (drop n vs)) (a .0) in
       let c = not-first (eqb (getD ls 0 0) 0) refl (a .1) in
       (_, held-tree m ls bs n vs ll lb (omega arith) (leb-true _ _ (b .0)) (b .1) (c .0) (sound (m .components) n ls 0 (lowest (m .components)) bs (length-lowest (m .components)) (c .1)))
     where
-      not-first : (x : Bool) {y : Bool} → eqb (getD ls 0 0) 0 ≡ x → pick x false y ≡ true → (getD ls 0 0 ≡ 0 → ⊥) × (y ≡ true)
+      not-first : (x : Bool) {y : Bool} → eqb (getD ls 0 0) 0 ≡ x → cond x false y ≡ true → (getD ls 0 0 ≡ 0 → ⊥) × (y ≡ true)
       not-first true e h = clash (sym h)
       not-first false e h = (eqb-false _ _ e, h)
 

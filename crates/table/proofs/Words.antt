@@ -1,13 +1,12 @@
 -- Words and their fields: what is packed is read back, for levels and for bindings.
-use mathlib.Core.Path.{_≡_, refl, ap, ap₂, sym, _∙_}
-use mathlib.Core.Bool.{Bool, true, false}
-use mathlib.Core.List.{List, [], _∷_, _++_, map}
-use Prim.Native.Nat.{ℕ, zero, suc, _+_, _*_, _/_, _%_, _<_, _≤_}
+use mathlib.Core.Path.{_≡_, refl, ap, ap₂}
+use mathlib.Core.Bool.{true}
+use mathlib.Core.List.{List, [], _∷_, map}
+use Prim.Native.Nat.{ℕ, zero, suc, _/_, _%_, _<_, _≤_}
 use native.Mathlib.Omega.{arith}
-use lib.ListN.{length, take, drop}
+use lib.ListN.{take, drop}
 use lib.Dec.{leb, ltb}
 use borrow.Author.Tests.{ltb-true}
-use Rattle.pkg_length.specs.Refusal.{pick}
 use Rattle.name_object.proofs.Paths.{both}
 use Rattle.table.specs.Tree.{Binding}
 use Rattle.table.specs.Layout.{pack, rankOf, typeOf, countOf, segOf, bindWord, bindingOf}

@@ -1,11 +1,9 @@
 -- What the functions inside promise one another. No public contract rests on these.
-use Prim.Native.Nat.{ℕ, zero, suc, _+_, _-_, _<_, _≤_}
-use mathlib.Core.Path.{_≡_}
-use mathlib.Core.Bool.{Bool, true, false}
+use Prim.Native.Nat.{ℕ, suc, _+_, _-_, _<_, _≤_}
+use mathlib.Core.Bool.{Bool, false, cond}
 use mathlib.Core.List.{List, [], _∷_, _++_, map}
 use lib.Dec.{leb, ltb, eqb}
 use lib.ListN.{length, take, drop, getD, set, replicate}
-use Rattle.pkg_length.specs.Refusal.{pick}
 use Rattle.name_object.specs.Memory.{allZero}
 use Rattle.table.specs.Limits.{Limits}
 use Rattle.table.specs.Layout.{rankOf, typeOf, countOf, segOf, bindingOf}
@@ -28,11 +26,11 @@ wordOk limit lo w = levelOk limit (rankOf w) lo (segOf w) (typeOf w) (countOf w)
 
 -- n bindings stand next
 unfoldable pub bindsOk : ℕ → ℕ → List ℕ → Bool
-bindsOk made n bs = pick (leb n (length bs)) (rising made 0 (map bindingOf (take n bs))) false
+bindsOk made n bs = cond (leb n (length bs)) (rising made 0 (map bindingOf (take n bs))) false
 
 -- a record w after one of rank p: no more than one below it, its own fields, its bindings
 unfoldable pub recordOk : ℕ → ℕ → ℕ → List ℕ → ℕ → List ℕ → Bool
-recordOk limit made p low w bs = pick (leb (rankOf w) (p + 1)) (pick (wordOk limit (getD low (rankOf w) 0) w) (bindsOk made (countOf w) bs) false) false
+recordOk limit made p low w bs = cond (leb (rankOf w) (p + 1)) (cond (wordOk limit (getD low (rankOf w) 0) w) (bindsOk made (countOf w) bs) false) false
 
 -- after a record: siblings come above its segment, children may have any
 abbrev pub noted : List ℕ → ℕ → List ℕ
@@ -42,8 +40,8 @@ noted low w = set (set low (rankOf w) (segOf w + 1)) (rankOf w + 1) 0
 unfoldable pub scan : ℕ → ℕ → ℕ → List ℕ → List ℕ → List ℕ → Bool
 scan limit made p low [] bs = allZero bs
 scan limit made p low (w ∷ ws) bs =
-    pick (eqb w 0) (pick (allZero ws) (allZero bs) false)
-    (pick (recordOk limit made p low w bs) (scan limit made (rankOf w) (noted low w) ws (drop (countOf w) bs)) false)
+    cond (eqb w 0) (cond (allZero ws) (allZero bs) false)
+    (cond (recordOk limit made p low w bs) (scan limit made (rankOf w) (noted low w) ws (drop (countOf w) bs)) false)
 
 -- nothing stands at any rank
 unfoldable pub lowest : ℕ → List ℕ
@@ -52,13 +50,13 @@ lowest limit = replicate (limit + 2) 0
 -- the objects' part: how many, their values, spare zeros
 unfoldable pub objectsOk : ℕ → List ℕ → Bool
 objectsOk room [] = false
-objectsOk room (n ∷ vs) = pick (leb n room) (allZero (drop n vs)) false
+objectsOk room (n ∷ vs) = cond (leb n room) (allZero (drop n vs)) false
 
 -- the three parts
 unfoldable pub partsOk : Limits → List ℕ → List ℕ → List ℕ → Bool
 partsOk m ls bs os =
-    pick (objectsOk (m .objects) os)
-    (pick (eqb (getD ls 0 0) 0) false (scan (m .components) (getD os 0 0) 0 (lowest (m .components)) ls bs))
+    cond (objectsOk (m .objects) os)
+    (cond (eqb (getD ls 0 0) 0) false (scan (m .components) (getD os 0 0) 0 (lowest (m .components)) ls bs))
     false
 
 -- Where a path leads, in one pass over the records.
@@ -80,9 +78,9 @@ unfoldable pub seekIn : List ℕ → List ℕ → ℕ → ℕ → ℕ → Sought
 seekIn [] ws r at k = here at
 seekIn (s ∷ p) [] r at k = gone p r k
 seekIn (s ∷ p) (w ∷ ws) r at k =
-    pick (leb (rankOf w) r) (gone p r k)
-    (pick (eqb (rankOf w) (suc r))
-    (pick (eqb (segOf w) s) (seekIn p ws (suc r) k (suc k)) (pick (ltb s (segOf w)) (gone p r k) (seekIn (s ∷ p) ws r at (suc k))))
+    cond (leb (rankOf w) r) (gone p r k)
+    (cond (eqb (rankOf w) (suc r))
+    (cond (eqb (segOf w) s) (seekIn p ws (suc r) k (suc k)) (cond (ltb s (segOf w)) (gone p r k) (seekIn (s ∷ p) ws r at (suc k))))
     (seekIn (s ∷ p) ws r at (suc k)))
 
 -- how many bindings records have
@@ -102,7 +100,7 @@ push c (x ∷ xs) = c ∷ push x xs
 -- how many records in a row are below the rank r
 unfoldable pub run : ℕ → List ℕ → ℕ
 run r [] = 0
-run r (w ∷ ws) = pick (ltb r (rankOf w)) (suc (run r ws)) 0
+run r (w ∷ ws) = cond (ltb r (rankOf w)) (suc (run r ws)) 0
 
 -- the index past the records of the level at j and of those below it
 unfoldable pub subtreeEnd : List ℕ → ℕ → ℕ
@@ -119,7 +117,7 @@ placed ls (before k) = Placed.Before k
 placed ls (missing n) = Placed.Missing n
 
 abbrev pub goneAt : ℕ → ℕ → ℕ → Placed
-goneAt n j k = pick (eqb (j + 1) n) (Placed.Before k) (Placed.Missing j)
+goneAt n j k = cond (eqb (j + 1) n) (Placed.Before k) (Placed.Missing j)
 
 abbrev pub subtreeOf : List ℕ → ℕ → Run
 subtreeOf ls j = record { end = subtreeEnd ls j; to = counts (take (subtreeEnd ls j) ls) }
@@ -129,7 +127,7 @@ subtreeOf ls j = record { end = subtreeEnd ls j; to = counts (take (subtreeEnd l
 -- a segment among a level's bindings, the first of which stands at index i: its handle, or where it would stand
 unfoldable pub slotIn : ℕ → List Binding → ℕ → Slot
 slotIn s [] i = Slot.Free i
-slotIn s (b ∷ bs) i = pick (eqb (b .segment) s) (Slot.Bound (b .handle)) (pick (ltb s (b .segment)) (Slot.Free i) (slotIn s bs (suc i)))
+slotIn s (b ∷ bs) i = cond (eqb (b .segment) s) (Slot.Bound (b .handle)) (cond (ltb s (b .segment)) (Slot.Free i) (slotIn s bs (suc i)))
 
 -- the bindings of the level whose record stands at index k
 unfoldable pub bindingsAt : List ℕ → List ℕ → ℕ → List Binding
@@ -146,7 +144,7 @@ spotFrom ls bs p (missing n) = Spot.Refused (AmlError.LevelDoesNotExist n)
 
 -- where a path's last segment is bound, or would be
 unfoldable pub spotIn : List ℕ → List ℕ → List ℕ → Spot
-spotIn ls bs p = pick (isRoot p) (Spot.Refused AmlError.RootNotAllowed) (spotFrom ls bs p (seekIn (scopeOf p) ls 0 0 0))
+spotIn ls bs p = cond (isRoot p) (Spot.Refused AmlError.RootNotAllowed) (spotFrom ls bs p (seekIn (scopeOf p) ls 0 0 0))
 
 -- the bindings that the records count are there
 abbrev pub BindingsHeld : List ℕ → List ℕ → Type 0
@@ -174,26 +172,26 @@ unfoldable pub nearIn : ℕ → List ℕ → List ℕ → List ℕ → ℕ → �
 nearIn s [] ws bs r m out = out
 nearIn s (x ∷ p) [] bs r m out = out
 nearIn s (x ∷ p) (w ∷ ws) bs r m out =
-    pick (leb (rankOf w) r) out
-    (pick (eqb (rankOf w) (suc r))
-    (pick (eqb (segOf w) x) (nearIn s p ws bs (suc r) (m + countOf w) (nearerOf (suc r) (slotIn s (map bindingOf (take (countOf w) (drop m bs))) m) out))
-    (pick (ltb x (segOf w)) out (nearIn s (x ∷ p) ws bs r (m + countOf w) out)))
+    cond (leb (rankOf w) r) out
+    (cond (eqb (rankOf w) (suc r))
+    (cond (eqb (segOf w) x) (nearIn s p ws bs (suc r) (m + countOf w) (nearerOf (suc r) (slotIn s (map bindingOf (take (countOf w) (drop m bs))) m) out))
+    (cond (ltb x (segOf w)) out (nearIn s (x ∷ p) ws bs r (m + countOf w) out)))
     (nearIn s (x ∷ p) ws bs r (m + countOf w) out))
 
 -- how many components the level of the scope has that a record of this rank stands in
 abbrev pub reopened : ℕ → ℕ → ℕ
-reopened depth rank = pick (leb rank depth) (rank - 1) depth
+reopened depth rank = cond (leb rank depth) (rank - 1) depth
 
 -- the scope goes on with this segment
 abbrev pub onward : List ℕ → ℕ → ℕ → Bool
-onward p depth s = pick (ltb depth (length p)) (eqb s (getD p depth 0)) false
+onward p depth s = cond (ltb depth (length p)) (eqb s (getD p depth 0)) false
 
 unfoldable pub nearLevelIn : ℕ → List ℕ → List ℕ → ℕ → ℕ → ℕ
 nearLevelIn s p [] depth best = best
 nearLevelIn s p (w ∷ ws) depth best =
-    pick (leb (rankOf w) best) best
-    (pick (eqb (rankOf w) (reopened depth (rankOf w) + 1))
-    (nearLevelIn s p ws (pick (onward p (reopened depth (rankOf w)) (segOf w)) (rankOf w) (reopened depth (rankOf w))) (pick (eqb (segOf w) s) (reopened depth (rankOf w)) best))
+    cond (leb (rankOf w) best) best
+    (cond (eqb (rankOf w) (reopened depth (rankOf w) + 1))
+    (nearLevelIn s p ws (cond (onward p (reopened depth (rankOf w)) (segOf w)) (rankOf w) (reopened depth (rankOf w))) (cond (eqb (segOf w) s) (reopened depth (rankOf w)) best))
     (nearLevelIn s p ws (reopened depth (rankOf w)) best))
 
 -- Paths.

@@ -1,10 +1,10 @@
 -- What memory means: the one tree that is written so, or 24.
-use Prim.Native.Nat.{ℕ, zero, suc, _+_}
-use mathlib.Core.Bool.{Bool, true, false}
-use mathlib.Core.List.{List, [], _∷_, _++_, map}
+use Prim.Native.Nat.{ℕ, suc, _+_}
+use mathlib.Core.Bool.{Bool, true, false, cond}
+use mathlib.Core.List.{List, [], _∷_, map}
 use lib.Dec.{ltb, eqb}
-use lib.ListN.{length, take, drop, getD}
-use Rattle.pkg_length.specs.Refusal.{Answer, gives, refuses, pick}
+use lib.ListN.{take, drop, getD}
+use Rattle.pkg_length.specs.Refusal.{Answer, gives, refuses}
 use Rattle.table.specs.Limits.{Limits}
 use Rattle.table.specs.Tree.{Binding, Forest, none, level, Tree}
 use Rattle.table.specs.Layout.{rankOf, typeOf, countOf, segOf, bindingOf, encode}
@@ -14,8 +14,8 @@ use Rattle.table.specs.Valid.{valid}
 unfoldable pub siblings : ℕ → List ℕ → List Binding → Forest
 siblings r [] bs = none
 siblings r (w ∷ ws) bs =
-    pick (ltb r (rankOf w)) (siblings r ws (drop (countOf w) bs))
-    (pick (eqb (rankOf w) r)
+    cond (ltb r (rankOf w)) (siblings r ws (drop (countOf w) bs))
+    (cond (eqb (rankOf w) r)
     (level (segOf w) (typeOf w) (take (countOf w) bs) (siblings (suc r) ws (drop (countOf w) bs)) (siblings r ws (drop (countOf w) bs)))
     none)
 
@@ -31,14 +31,14 @@ unfoldable pub same : List ℕ → List ℕ → Bool
 same [] [] = true
 same [] (y ∷ ys) = false
 same (x ∷ xs) [] = false
-same (x ∷ xs) (y ∷ ys) = pick (eqb x y) (same xs ys) false
+same (x ∷ xs) (y ∷ ys) = cond (eqb x y) (same xs ys) false
 
 -- words are well-formed when they are what a valid tree is written as
 unfoldable pub wellFormed : Limits → List ℕ → Bool
-wellFormed m ws = pick (valid m (decode m ws)) (same (encode m (decode m ws)) ws) false
+wellFormed m ws = cond (valid m (decode m ws)) (same (encode m (decode m ws)) ws) false
 
 unfoldable pub means : Limits → List ℕ → Answer Tree
-means m ws = pick (wellFormed m ws) (gives (decode m ws)) (refuses 24 0)
+means m ws = cond (wellFormed m ws) (gives (decode m ws)) (refuses 24 0)
 
 -- how many words a table has
 abbrev pub size : Limits → ℕ

@@ -1,9 +1,10 @@
 -- The search: a scope is asked, then each scope around it up to `\`, and the first that holds the segment answers.
+use mathlib.Core.Bool.{cond}
 use Prim.Native.Nat.{ℕ, zero, suc}
 use mathlib.Core.List.{List, [], _∷_, _++_}
 use lib.Dec.{ltb}
 use lib.ListN.{length, take}
-use Rattle.pkg_length.specs.Refusal.{Answer, gives, refuses, andThen, pick}
+use Rattle.pkg_length.specs.Refusal.{Answer, gives, refuses, andThen}
 use Rattle.name_object.specs.Component.{Component}
 use Rattle.name_object.specs.Memory.{Named}
 use Rattle.table.specs.Limits.{Limits}
@@ -28,10 +29,10 @@ outward ask none scope (suc n) asked = orOn (ask (take (suc n) scope)) (take (su
 
 -- what a scope holds under a segment: a missing level holds none, and so does a scope of as many components as a name may have
 unfoldable pub valueIn : Limits → Tree → Component → List Component → Answer ℕ
-valueIn m t c scope = pick (ltb (length scope) (m .components)) (lookUp t (keys (scope ++ (c ∷ [])))) (refuses 16 0)
+valueIn m t c scope = cond (ltb (length scope) (m .components)) (lookUp t (keys (scope ++ (c ∷ [])))) (refuses 16 0)
 
 unfoldable pub levelIn : Limits → Tree → Component → List Component → Answer (Unit {0})
-levelIn m t c scope = pick (ltb (length scope) (m .components)) (andThen (levelAt 0 (t .levels) (keys (scope ++ (c ∷ [])))) (λ l. gives tt)) (refuses 15 1)
+levelIn m t c scope = cond (ltb (length scope) (m .components)) (andThen (levelAt 0 (t .levels) (keys (scope ++ (c ∷ [])))) (λ l. gives tt)) (refuses 15 1)
 
 -- a handle, and the scopes asked
 pub record Hit : Type 0 where

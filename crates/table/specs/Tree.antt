@@ -1,5 +1,5 @@
 -- The namespace: a tree of typed levels, bindings of a segment at a level to a handle, and objects.
-use Prim.Native.Nat.{ℕ, zero, suc, _+_, _*_}
+use Prim.Native.Nat.{ℕ, suc, _+_, _*_}
 use mathlib.Core.List.{List, [], _∷_, _++_}
 use Rattle.name_object.specs.Component.{Component, root, up, seg}
 

@@ -1,11 +1,10 @@
 // For the layer above alone, over the parts of a table: what each needs is tested there.
 ghost use mathlib.Core.Path.{_≡_};
-ghost use mathlib.Core.Bool.{true, false};
+ghost use mathlib.Core.Bool.{true, false, cond};
 ghost use mathlib.Core.List.{_++_, map};
 ghost use Prim.Native.Nat.{ℕ, _+_, _-_, _<_, _≤_};
 ghost use lib.Dec.{eqb};
 ghost use lib.ListN.{length, take, drop, getD, replicate};
-ghost use Rattle.pkg_length.specs.Refusal.{pick};
 ghost use Rattle.name_object.specs.Component.{componentLimit};
 ghost use Rattle.name_object.specs.Memory.{allZero};
 ghost use Rattle.table.specs.Limits.{limits};
@@ -115,7 +114,7 @@ fn binds_fit(bindings: &[u64], from: usize, n: usize, made: u64) -> bool
 
 // A spare word more.
 fn is_clean(clean: bool, w: u64) -> bool
-    ensures { λ r. ⌜ r ≡ pick clean (eqb w 0) false ⌝ }
+    ensures { λ r. ⌜ r ≡ cond clean (eqb w 0) false ⌝ }
 {
     if clean {
         return w == 0;
@@ -456,7 +455,7 @@ pub fn nearest_value(levels: &[u64], bindings: &[u64], scope: &[u64], seg: u64) 
 
 // The first where the test holds, else the second.
 fn choose(test: bool, a: usize, b: usize) -> usize
-    ensures { λ r. ⌜ r ≡ pick test a b ⌝ }
+    ensures { λ r. ⌜ r ≡ cond test a b ⌝ }
 {
     if test { a } else { b }
 }

@@ -1,7 +1,7 @@
 -- The path holds the first i components of the whole name: the prefix byte by byte, then the segments four bytes at a time.
-use mathlib.Core.Path.{_≡_, sym, _∙_}
+use mathlib.Core.Path.{_≡_, _∙_}
 use Prim.Native.Nat.{_+_, _-_, _≤_}
-use lib.ListN.{length, take, drop}
+use lib.ListN.{take}
 use Rattle.name_object.specs.Component.{componentLimit}
 use Rattle.name_object.specs.Memory.{nameOf}
 use Rattle.name_object.proofs.Building.{whole, build-count, build-prefix, build-seg, build-half, build-done}
@@ -22,26 +22,14 @@ Inv-loop2 input pre from n name₀ i j₀ name j = (j ≤ n) × (name ≡ nameOf
 abbrev μ-loop2 : tie.MeasureT-loop2
 μ-loop2 input pre from n name₀ i j₀ name j = n - j
 
-empty-requires : tie.Need-empty-requires Inv-loop μ-loop Inv-loop2 μ-loop2
-empty-requires c κs = search needs
-
 loop-holds : tie.Need-loop-holds Inv-loop μ-loop Inv-loop2 μ-loop2
 loop-holds c = (omega arith, c .empty .ensures)
-
-shared-slice-read-push : tie.Need-shared-slice-read-push Inv-loop μ-loop Inv-loop2 μ-loop2
-shared-slice-read-push c = search needs
 
 push-requires : tie.Need-push-requires Inv-loop μ-loop Inv-loop2 μ-loop2
 push-requires c κs =
     let a = c .before .before .before .before .before .args in
     let l = c .before .before .loop in
     omega (arith, build-count (a .input .now) (a .pre) (a .from) (a .n) (l .name) (omega arith) (omega arith) (l .i) (omega arith) (l .inv .1))
-
-add-i : tie.Need-add-i Inv-loop μ-loop Inv-loop2 μ-loop2
-add-i c = search needs
-
-loop-less : tie.Need-loop-less Inv-loop μ-loop Inv-loop2 μ-loop2
-loop-less c = search needs
 
 loop-again : tie.Need-loop-again Inv-loop μ-loop Inv-loop2 μ-loop2
 loop-again c =
@@ -55,44 +43,11 @@ loop2-holds c =
     let l = c .before .loop in
     (omega arith, build-half (a .input .now) (a .pre) (a .from) (a .n) (l .name) (omega arith) (omega arith) (l .i) (omega arith) (omega arith) (l .inv .1))
 
-mul-at : tie.Need-mul-at Inv-loop μ-loop Inv-loop2 μ-loop2
-mul-at c = search needs
-
-add-at : tie.Need-add-at Inv-loop μ-loop Inv-loop2 μ-loop2
-add-at c = search needs
-
-shared-slice-read-push-2 : tie.Need-shared-slice-read-push-2 Inv-loop μ-loop Inv-loop2 μ-loop2
-shared-slice-read-push-2 c = search needs
-
-add-push : tie.Need-add-push Inv-loop μ-loop Inv-loop2 μ-loop2
-add-push c = search needs
-
-shared-slice-read-push-3 : tie.Need-shared-slice-read-push-3 Inv-loop μ-loop Inv-loop2 μ-loop2
-shared-slice-read-push-3 c = search needs
-
-add-push-2 : tie.Need-add-push-2 Inv-loop μ-loop Inv-loop2 μ-loop2
-add-push-2 c = search needs
-
-shared-slice-read-push-4 : tie.Need-shared-slice-read-push-4 Inv-loop μ-loop Inv-loop2 μ-loop2
-shared-slice-read-push-4 c = search needs
-
-add-push-3 : tie.Need-add-push-3 Inv-loop μ-loop Inv-loop2 μ-loop2
-add-push-3 c = search needs
-
-shared-slice-read-push-5 : tie.Need-shared-slice-read-push-5 Inv-loop μ-loop Inv-loop2 μ-loop2
-shared-slice-read-push-5 c = search needs
-
 push-requires-2 : tie.Need-push-requires-2 Inv-loop μ-loop Inv-loop2 μ-loop2
 push-requires-2 c κs =
     let a = c .before .before .before .before .before .before .before .before .before .before .args in
     let l = c .before .before .before .before .before .loop2 in
     omega (arith, build-count (a .input .now) (a .pre) (a .from) (a .n) (l .name) (omega arith) (omega arith) (a .pre + l .j) (omega arith) (l .inv .1))
-
-add-j : tie.Need-add-j Inv-loop μ-loop Inv-loop2 μ-loop2
-add-j c = search needs
-
-loop2-less : tie.Need-loop2-less Inv-loop μ-loop Inv-loop2 μ-loop2
-loop2-less c = search needs
 
 loop2-again : tie.Need-loop2-again Inv-loop μ-loop Inv-loop2 μ-loop2
 loop2-again c =
@@ -108,31 +63,6 @@ returns c =
 
 pub build-spec : {M : Type 1} → statement M
 build-spec =
-    tie.close
-    (tie.spec
-    Inv-loop
-    μ-loop
-    Inv-loop2
-    μ-loop2
-    empty-requires
-    loop-holds
-    shared-slice-read-push
-    push-requires
-    add-i
-    loop-less
-    loop-again
-    loop2-holds
-    mul-at
-    add-at
-    shared-slice-read-push-2
-    add-push
-    shared-slice-read-push-3
-    add-push-2
-    shared-slice-read-push-4
-    add-push-3
-    shared-slice-read-push-5
-    push-requires-2
-    add-j
-    loop2-less
-    loop2-again
-    returns)
+    tie.close (tie.spec Inv-loop μ-loop Inv-loop2 μ-loop2 (λ c κs. search needs) loop-holds (λ c. search needs) push-requires (λ c. search needs)
+    (λ c. search needs) loop-again loop2-holds (λ c. search needs) (λ c. search needs) (λ c. search needs) (λ c. search needs) (λ c. search needs)
+    (λ c. search needs) (λ c. search needs) (λ c. search needs) (λ c. search needs) push-requires-2 (λ c. search needs) (λ c. search needs) loop2-again returns)

@@ -1,7 +1,5 @@
 use borrow.Author.Tests.{lt-leb, le-leb}
 use Rattle.name_object.specs.Component.{digitOk}
-use borrow.Author.Needs.{needs}
-use native.Mathlib.Omega.{arith}
 use Rattle.name_object.proofs.is_digit_char.Statement.{statement}
 use Rattle.name_object.proofs.is_digit_char.Tie as tie
 

@@ -1,7 +1,5 @@
 use borrow.Author.Tests.{eq-eqb, ne-eqb, lt-leb, le-leb}
 use Rattle.name_object.specs.Component.{leadOk}
-use borrow.Author.Needs.{needs}
-use native.Mathlib.Omega.{arith}
 use Rattle.name_object.proofs.is_lead_name_char.Statement.{statement}
 use Rattle.name_object.proofs.is_lead_name_char.Tie as tie
 

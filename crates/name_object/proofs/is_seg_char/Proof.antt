@@ -1,19 +1,12 @@
 use borrow.Author.Tests.{eq-eqb, ne-eqb}
 use Rattle.name_object.specs.Inside.{segChar}
 use borrow.Author.Needs.{needs}
-use native.Mathlib.Omega.{arith}
 use Rattle.name_object.proofs.is_seg_char.Statement.{statement}
 use Rattle.name_object.proofs.is_seg_char.Tie as tie
-
-is-lead-name-char-requires : tie.Need-is-lead-name-char-requires
-is-lead-name-char-requires c κs = search needs
 
 returns : tie.Need-returns
 unfolding segChar
 returns c = simp (eq-eqb _ _ (c .before .if1 .taken)) (c .is-lead-name-char .ensures)
-
-is-name-char-requires : tie.Need-is-name-char-requires
-is-name-char-requires c κs = search needs
 
 returns-2 : tie.Need-returns-2
 unfolding segChar
@@ -21,4 +14,4 @@ returns-2 c = simp (ne-eqb _ _ (c .before .if1 .left)) (c .is-name-char .ensures
 
 pub is-seg-char-spec : {M : Type 1} → statement M
 is-seg-char-spec =
-    tie.close (tie.spec is-lead-name-char-requires returns is-name-char-requires returns-2)
+    tie.close (tie.spec (λ c κs. search needs) returns (λ c κs. search needs) returns-2)

@@ -6,17 +6,8 @@ use native.Mathlib.Omega.{arith}
 use Rattle.name_object.proofs.multi_name_path.Statement.{statement}
 use Rattle.name_object.proofs.multi_name_path.Tie as tie
 
-add-count-at : tie.Need-add-count-at
-add-count-at c = search needs
-
 returns : tie.Need-returns
 returns c = multi-end _ _ (omega arith)
-
-add-name-segs : tie.Need-add-name-segs
-add-name-segs c = search needs
-
-shared-slice-read-name-segs : tie.Need-shared-slice-read-name-segs
-shared-slice-read-name-segs c = search needs
 
 cast-name-segs : tie.Need-cast-name-segs
 cast-name-segs c = omega (arith, c .shared-slice-known2 .given (c .before .before .before .args .at + 1))
@@ -29,12 +20,4 @@ returns-2 c = c .name-segs .ensures ∙ multi-read _ _ (omega arith)
 
 pub multi-name-path-spec : {M : Type 1} → statement M
 multi-name-path-spec =
-    tie.close
-    (tie.spec
-    add-count-at
-    returns
-    add-name-segs
-    shared-slice-read-name-segs
-    cast-name-segs
-    name-segs-requires
-    returns-2)
+    tie.close (tie.spec (λ c. search needs) returns (λ c. search needs) (λ c. search needs) cast-name-segs name-segs-requires returns-2)

@@ -16,24 +16,9 @@ abbrev μ-loop : tie.MeasureT-loop
 loop-holds : tie.Need-loop-holds Inv-loop μ-loop
 loop-holds c = begun-none _ _ (omega arith)
 
-add-i : tie.Need-add-i Inv-loop μ-loop
-add-i c = search needs
-
 returns : tie.Need-returns Inv-loop μ-loop
 returns c =
     seg-short _ _ (c .before .before .loop .k) (omega arith) (c .before .before .loop .inv) (omega arith)
-
-shared-slice-read-is-seg-char : tie.Need-shared-slice-read-is-seg-char Inv-loop μ-loop
-shared-slice-read-is-seg-char c = search needs
-
-is-seg-char-requires : tie.Need-is-seg-char-requires Inv-loop μ-loop
-is-seg-char-requires c κs = search needs
-
-add-k : tie.Need-add-k Inv-loop μ-loop
-add-k c = search needs
-
-loop-less : tie.Need-loop-less Inv-loop μ-loop
-loop-less c = search needs
 
 loop-again : tie.Need-loop-again Inv-loop μ-loop
 loop-again c =
@@ -43,26 +28,10 @@ returns-2 : tie.Need-returns-2 Inv-loop μ-loop
 returns-2 c =
     seg-bad _ _ (c .before .before .before .before .before .loop .k) (omega arith) (c .before .before .before .before .before .loop .inv) (omega arith) (sym (c .before .is-seg-char .ensures) ∙ c .if2 .left)
 
-add-t13 : tie.Need-add-t13 Inv-loop μ-loop
-add-t13 c = omega arith
-
 returns-3 : tie.Need-returns-3 Inv-loop μ-loop
 returns-3 c = seg-whole _ _ (c .before .loop .k) (omega arith) (c .before .loop .inv)
 
 pub name-seg-spec : {M : Type 1} → statement M
 name-seg-spec =
-    tie.close
-    (tie.spec
-    Inv-loop
-    μ-loop
-    loop-holds
-    add-i
-    returns
-    shared-slice-read-is-seg-char
-    is-seg-char-requires
-    add-k
-    loop-less
-    loop-again
-    returns-2
-    add-t13
-    returns-3)
+    tie.close (tie.spec Inv-loop μ-loop loop-holds (λ c. search needs) returns (λ c. search needs) (λ c κs. search needs) (λ c. search needs)
+    (λ c. search needs) loop-again returns-2 (λ c. omega arith) returns-3)

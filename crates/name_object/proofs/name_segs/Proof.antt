@@ -17,24 +17,9 @@ abbrev μ-loop : tie.MeasureT-loop
 loop-holds : tie.Need-loop-holds Inv-loop μ-loop
 loop-holds c = reached-none _ _ _ (omega arith)
 
-name-seg-requires : tie.Need-name-seg-requires Inv-loop μ-loop
-name-seg-requires c κs = search needs
-
-enum-known-next : tie.Need-enum-known-next Inv-loop μ-loop
-enum-known-next c = search needs
-
-add-done : tie.Need-add-done Inv-loop μ-loop
-add-done c = search needs
-
-loop-less : tie.Need-loop-less Inv-loop μ-loop
-loop-less c = search needs
-
 loop-again : tie.Need-loop-again Inv-loop μ-loop
 loop-again c =
     reached-more _ _ _ (c .before .before .before .before .before .loop .at) (c .before .before .before .before .before .loop .done) _ (c .before .before .before .before .before .loop .inv) (omega arith) (sym (ap cursorSaid (c .before .next .given .1)) ∙ c .before .before .before .name-seg .ensures)
-
-enum-known-e : tie.Need-enum-known-e Inv-loop μ-loop
-enum-known-e c = search needs
 
 returns : tie.Need-returns Inv-loop μ-loop
 returns c =
@@ -46,16 +31,5 @@ returns-2 c =
 
 pub name-segs-spec : {M : Type 1} → statement M
 name-segs-spec =
-    tie.close
-    (tie.spec
-    Inv-loop
-    μ-loop
-    loop-holds
-    name-seg-requires
-    enum-known-next
-    add-done
-    loop-less
-    loop-again
-    enum-known-e
-    returns
-    returns-2)
+    tie.close (tie.spec Inv-loop μ-loop loop-holds (λ c κs. search needs) (λ c. search needs) (λ c. search needs) (λ c. search needs) loop-again
+    (λ c. search needs) returns returns-2)

@@ -9,21 +9,6 @@ use native.Mathlib.Omega.{arith}
 use Rattle.name_object.proofs.name_string.Statement.{statement}
 use Rattle.name_object.proofs.name_string.Tie as tie
 
-prefixes-requires : tie.Need-prefixes-requires
-prefixes-requires c κs = search needs
-
-name-path-requires : tie.Need-name-path-requires
-name-path-requires c κs = search needs
-
-enum-known-e : tie.Need-enum-known-e
-enum-known-e c = search needs
-
-refuse-requires : tie.Need-refuse-requires
-refuse-requires c κs = search needs
-
-enum-known-run : tie.Need-enum-known-run
-enum-known-run c = search needs
-
 add-if1 : tie.Need-add-if1
 add-if1 c =
     let xs = c .before .before .before .before .before .before .args .input .now in
@@ -31,9 +16,6 @@ add-if1 c =
     let run = c .before .run .given in
     let read = sym (ap runSaid (run .1)) ∙ c .before .before .before .name-path .ensures in
     omega (arith, run-room xs (pre .result) (run .0 .0) read)
-
-refuse-requires-2 : tie.Need-refuse-requires-2
-refuse-requires-2 c κs = search needs
 
 returns : tie.Need-returns
 returns c =
@@ -51,9 +33,6 @@ add-if2 c =
     let read = sym (ap runSaid (run .1)) ∙ c .before .before .before .before .name-path .ensures in
     omega (arith, run-room xs (pre .result) (run .0 .0) read)
 
-refuse-requires-3 : tie.Need-refuse-requires-3
-refuse-requires-3 c κs = search needs
-
 returns-2 : tie.Need-returns-2
 returns-2 c =
     let xs = c .before .before .before .before .before .before .before .before .before .args .input .now in
@@ -69,9 +48,6 @@ build-requires c κs =
     let run = c .before .before .before .run .given in
     let read = sym (ap runSaid (run .1)) ∙ c .before .before .before .before .before .name-path .ensures in
     (pre .ensures .0, pre .ensures .1, run-room xs (pre .result) (run .0 .0) read .1, omega arith)
-
-mul-t9 : tie.Need-mul-t9
-mul-t9 c = search needs
 
 add-t14 : tie.Need-add-t14
 add-t14 c =
@@ -99,21 +75,5 @@ returns-4 c =
 
 pub name-string-spec : {M : Type 1} → statement M
 name-string-spec =
-    tie.close
-    (tie.spec
-    prefixes-requires
-    name-path-requires
-    enum-known-e
-    refuse-requires
-    enum-known-run
-    add-if1
-    refuse-requires-2
-    returns
-    add-if2
-    refuse-requires-3
-    returns-2
-    build-requires
-    mul-t9
-    add-t14
-    returns-3
-    returns-4)
+    tie.close (tie.spec (λ c κs. search needs) (λ c κs. search needs) (λ c. search needs) (λ c κs. search needs) (λ c. search needs) add-if1
+    (λ c κs. search needs) returns add-if2 (λ c κs. search needs) returns-2 build-requires (λ c. search needs) add-t14 returns-3 returns-4)

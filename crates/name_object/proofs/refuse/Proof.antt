@@ -1,14 +1,10 @@
 use Rattle.pkg_length.specs.Refusal.{refused}
 use borrow.Author.Needs.{needs}
-use native.Mathlib.Omega.{arith}
 use Rattle.name_object.proofs.refuse.Statement.{statement}
 use Rattle.name_object.proofs.refuse.Tie as tie
-
-empty-requires : tie.Need-empty-requires
-empty-requires c κs = search needs
 
 returns : tie.Need-returns
 returns c = λ i. record { memory = c .empty .ensures i; said = refused (c .before .args .e) }
 
 pub refuse-spec : {M : Type 1} → statement M
-refuse-spec = tie.close (tie.spec empty-requires returns)
+refuse-spec = tie.close (tie.spec (λ c κs. search needs) returns)

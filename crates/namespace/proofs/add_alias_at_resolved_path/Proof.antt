@@ -9,12 +9,6 @@ use borrow.Author.Needs.{needs}
 use Rattle.namespace.proofs.add_alias_at_resolved_path.Statement.{statement}
 use Rattle.namespace.proofs.add_alias_at_resolved_path.Tie as tie
 
-well-formed-requires : tie.Need-well-formed-requires
-well-formed-requires c κs = search needs
-
-are-paths-requires : tie.Need-are-paths-requires
-are-paths-requires c κs = search needs
-
 resolve-alias-requires : tie.Need-resolve-alias-requires
 resolve-alias-requires c κs =
     let c3 = c .before .before .before in
@@ -22,9 +16,6 @@ resolve-alias-requires c κs =
     let c7 = c4 .before .before .before in
     let h1 = three-paths (c7 .args .path) (c7 .args .scope) (c7 .args .target) (sym (c .before .before .are-paths .ensures) ∙ c .before .if2 .taken) in
     (sym (c4 .well-formed .ensures) ∙ c3 .if1 .taken, h1 .0, h1 .1, h1 .2)
-
-same-length : tie.Need-same-length
-same-length c = search needs
 
 returns : tie.Need-returns
 returns c =
@@ -37,9 +28,6 @@ returns c =
     c .before .before .resolve-alias .ensures ∙ ap (left limits ws)
     (alias-given limits ws (c10 .args .path) (c10 .args .scope) (c10 .args .target) (sym (c7 .well-formed .ensures) ∙ c6 .if1 .taken) (three-paths (c10 .args .path) (c10 .args .scope) (c10 .args .target) (sym (c5 .are-paths .ensures) ∙ c4 .if2 .taken)))
 
-same-length-2 : tie.Need-same-length-2
-same-length-2 c = search needs
-
 returns-2 : tie.Need-returns-2
 returns-2 c =
     let c3 = c .before .before .before in
@@ -47,9 +35,6 @@ returns-2 c =
     let ws = c6 .args .table .now in
     left-kept limits ws _ _ (addAliasCall limits ws (c6 .args .path) (c6 .args .scope) (c6 .args .target))
     (alias-paths limits ws (c6 .args .path) (c6 .args .scope) (c6 .args .target) (sym (c3 .well-formed .ensures) ∙ c .before .before .if1 .taken) (sym (c .before .are-paths .ensures) ∙ c .if2 .left))
-
-same-length-3 : tie.Need-same-length-3
-same-length-3 c = search needs
 
 returns-3 : tie.Need-returns-3
 returns-3 c =
@@ -59,14 +44,5 @@ returns-3 c =
 
 pub add-alias-at-resolved-path-spec : {M : Type 1} → statement M
 add-alias-at-resolved-path-spec =
-    tie.close
-    (tie.spec
-    well-formed-requires
-    are-paths-requires
-    resolve-alias-requires
-    same-length
-    returns
-    same-length-2
-    returns-2
-    same-length-3
-    returns-3)
+    tie.close (tie.spec (λ c κs. search needs) (λ c κs. search needs) resolve-alias-requires (λ c. search needs) returns (λ c. search needs) returns-2
+    (λ c. search needs) returns-3)

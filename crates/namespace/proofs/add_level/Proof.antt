@@ -26,18 +26,6 @@ type-low PowerResource = omega arith
 type-low ThermalZone = omega arith
 type-low MethodLocals = omega arith
 
-well-formed-requires : tie.Need-well-formed-requires
-well-formed-requires c κs = search needs
-
-settled-requires : tie.Need-settled-requires
-settled-requires c κs = search needs
-
-enum-known-said : tie.Need-enum-known-said
-enum-known-said c = search needs
-
-enum-told : tie.Need-enum-told
-enum-told c = search needs
-
 keys-of-requires : tie.Need-keys-of-requires
 keys-of-requires c κs =
     (settled-done (c .before .before .before .before .before .before .before .before .args .path) (c .before .before .before .settled .result) (c .before .before .before .settled .ensures) (c .before .enum-told .given .1)) .0
@@ -60,9 +48,6 @@ slice-aggregate-add-level c =
     let len : length (c .before .before .keys-of .result) ≡ 32 = search needs in
     sym (length-take-le (c6 .settled .result .name .count) (c .before .before .keys-of .result) (omega arith))
 
-type-number-requires : tie.Need-type-number-requires
-type-number-requires c κs = search needs
-
 add-level-requires : tie.Need-add-level-requires
 add-level-requires c κs =
     let c3 = c .before .before .before in
@@ -78,9 +63,6 @@ add-level-requires c κs =
           (type-low (c12 .args .typ)),
     )
 
-same-length : tie.Need-same-length
-same-length c = search needs
-
 returns : tie.Need-returns
 unfolding addLevelCall
 returns c =
@@ -91,9 +73,6 @@ returns c =
     let ws = c8 .args .table .now in
     left-kept limits ws _ _ _ (call-refused limits ws (λ t p. done (addLevel limits t p (typeNumber (c8 .args .typ)))) (settledKeys componentLimit (c8 .args .path)) (sym (c5 .well-formed .ensures) ∙ c4 .if1 .taken)
     (c .before .said .given .0 .0) (settled-refused (c8 .args .path) (c3 .settled .result) (c3 .settled .ensures) (c .before .said .given .0 .0) (c .before .said .given .1)))
-
-same-length-2 : tie.Need-same-length-2
-same-length-2 c = search needs
 
 returns-2 : tie.Need-returns-2
 unfolding addLevelCall
@@ -110,9 +89,6 @@ returns-2 c =
     ∙ ap (left limits ws) (call-given limits ws (λ t p. done (addLevel limits t p (typeNumber (c15 .args .typ)))) (settledKeys componentLimit (c15 .args .path)) (sym (c12 .well-formed .ensures) ∙ c11 .if1 .taken) _
     ((settled-done (c15 .args .path) (c10 .settled .result) (c10 .settled .ensures) (c8 .enum-told .given .1)) .1))
 
-same-length-3 : tie.Need-same-length-3
-same-length-3 c = search needs
-
 returns-3 : tie.Need-returns-3
 unfolding addLevelCall
 returns-3 c =
@@ -121,20 +97,5 @@ returns-3 c =
 
 pub add-level-spec : {M : Type 1} → statement M
 add-level-spec =
-    tie.close
-    (tie.spec
-    well-formed-requires
-    settled-requires
-    enum-known-said
-    enum-told
-    keys-of-requires
-    array-share-prefix-keys
-    slice-aggregate-add-level
-    type-number-requires
-    add-level-requires
-    same-length
-    returns
-    same-length-2
-    returns-2
-    same-length-3
-    returns-3)
+    tie.close (tie.spec (λ c κs. search needs) (λ c κs. search needs) (λ c. search needs) (λ c. search needs) keys-of-requires array-share-prefix-keys
+    slice-aggregate-add-level (λ c κs. search needs) add-level-requires (λ c. search needs) returns (λ c. search needs) returns-2 (λ c. search needs) returns-3)

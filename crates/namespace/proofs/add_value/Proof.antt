@@ -16,18 +16,6 @@ use native.Mathlib.Omega.{arith}
 use Rattle.namespace.proofs.add_value.Statement.{statement}
 use Rattle.namespace.proofs.add_value.Tie as tie
 
-well-formed-requires : tie.Need-well-formed-requires
-well-formed-requires c κs = search needs
-
-settled-requires : tie.Need-settled-requires
-settled-requires c κs = search needs
-
-enum-known-said : tie.Need-enum-known-said
-enum-known-said c = search needs
-
-enum-told : tie.Need-enum-told
-enum-told c = search needs
-
 keys-of-requires : tie.Need-keys-of-requires
 keys-of-requires c κs =
     (settled-done (c .before .before .before .before .before .before .before .before .args .path) (c .before .before .before .settled .result) (c .before .before .before .settled .ensures) (c .before .enum-told .given .1)) .0
@@ -62,9 +50,6 @@ add-value-requires c κs =
           (kept-keyed componentLimit _ (settled-kept (c6 .settled .result .name) ((settled-done (c11 .args .path) (c6 .settled .result) (c6 .settled .ensures) (c4 .enum-told .given .1)) .0)) (omega arith)),
     )
 
-same-length : tie.Need-same-length
-same-length c = search needs
-
 returns : tie.Need-returns
 unfolding addValueCall
 returns c =
@@ -75,9 +60,6 @@ returns c =
     let ws = c8 .args .table .now in
     left-kept limits ws _ _ _ (call-refused limits ws (λ t p. addValue limits t p (c8 .args .value)) (settledKeys componentLimit (c8 .args .path)) (sym (c5 .well-formed .ensures) ∙ c4 .if1 .taken) (c .before .said .given .0 .0)
     (settled-refused (c8 .args .path) (c3 .settled .result) (c3 .settled .ensures) (c .before .said .given .0 .0) (c .before .said .given .1)))
-
-same-length-2 : tie.Need-same-length-2
-same-length-2 c = search needs
 
 returns-2 : tie.Need-returns-2
 unfolding addValueCall
@@ -93,9 +75,6 @@ returns-2 c =
     ∙ ap (left limits ws) (call-given limits ws (λ t p. addValue limits t p (c14 .args .value)) (settledKeys componentLimit (c14 .args .path)) (sym (c11 .well-formed .ensures) ∙ c10 .if1 .taken) _
     ((settled-done (c14 .args .path) (c9 .settled .result) (c9 .settled .ensures) (c7 .enum-told .given .1)) .1))
 
-same-length-3 : tie.Need-same-length-3
-same-length-3 c = search needs
-
 returns-3 : tie.Need-returns-3
 unfolding addValueCall
 returns-3 c =
@@ -104,19 +83,5 @@ returns-3 c =
 
 pub add-value-spec : {M : Type 1} → statement M
 add-value-spec =
-    tie.close
-    (tie.spec
-    well-formed-requires
-    settled-requires
-    enum-known-said
-    enum-told
-    keys-of-requires
-    array-share-prefix-keys
-    slice-aggregate-add-value
-    add-value-requires
-    same-length
-    returns
-    same-length-2
-    returns-2
-    same-length-3
-    returns-3)
+    tie.close (tie.spec (λ c κs. search needs) (λ c κs. search needs) (λ c. search needs) (λ c. search needs) keys-of-requires array-share-prefix-keys
+    slice-aggregate-add-value add-value-requires (λ c. search needs) returns (λ c. search needs) returns-2 (λ c. search needs) returns-3)

@@ -16,18 +16,6 @@ use native.Mathlib.Omega.{arith}
 use Rattle.namespace.proofs.add_value_at_resolved_path.Statement.{statement}
 use Rattle.namespace.proofs.add_value_at_resolved_path.Tie as tie
 
-well-formed-requires : tie.Need-well-formed-requires
-well-formed-requires c κs = search needs
-
-resolve-requires : tie.Need-resolve-requires
-resolve-requires c κs = search needs
-
-enum-known-said : tie.Need-enum-known-said
-enum-known-said c = search needs
-
-enum-told : tie.Need-enum-told
-enum-told c = search needs
-
 keys-of-requires : tie.Need-keys-of-requires
 keys-of-requires c κs =
     let c3 = c .before .before .before in
@@ -64,9 +52,6 @@ add-value-requires c κs =
           (kept-keyed componentLimit _ (settled-kept (c6 .resolve .result .name) ((joined-done (c11 .args .path) (c11 .args .scope) (c6 .resolve .result) (c6 .resolve .ensures) (c4 .enum-told .given .1)) .0)) (omega arith)),
     )
 
-same-length : tie.Need-same-length
-same-length c = search needs
-
 returns : tie.Need-returns
 unfolding addValueResolvedCall
 returns c =
@@ -77,9 +62,6 @@ returns c =
     let ws = c8 .args .table .now in
     left-kept limits ws _ _ _ (call-refused limits ws (λ t p. addValue limits t p (c8 .args .value)) (resolvedKeys componentLimit (c8 .args .path) (c8 .args .scope)) (sym (c5 .well-formed .ensures) ∙ c4 .if1 .taken)
     (c .before .said .given .0 .0) (joined-refused (c8 .args .path) (c8 .args .scope) (c3 .resolve .result) (c3 .resolve .ensures) (c .before .said .given .0 .0) (c .before .said .given .1)))
-
-same-length-2 : tie.Need-same-length-2
-same-length-2 c = search needs
 
 returns-2 : tie.Need-returns-2
 unfolding addValueResolvedCall
@@ -95,9 +77,6 @@ returns-2 c =
     ∙ ap (left limits ws) (call-given limits ws (λ t p. addValue limits t p (c14 .args .value)) (resolvedKeys componentLimit (c14 .args .path) (c14 .args .scope)) (sym (c11 .well-formed .ensures) ∙ c10 .if1 .taken) _
     ((joined-done (c14 .args .path) (c14 .args .scope) (c9 .resolve .result) (c9 .resolve .ensures) (c7 .enum-told .given .1)) .1))
 
-same-length-3 : tie.Need-same-length-3
-same-length-3 c = search needs
-
 returns-3 : tie.Need-returns-3
 unfolding addValueResolvedCall
 returns-3 c =
@@ -107,19 +86,5 @@ returns-3 c =
 
 pub add-value-at-resolved-path-spec : {M : Type 1} → statement M
 add-value-at-resolved-path-spec =
-    tie.close
-    (tie.spec
-    well-formed-requires
-    resolve-requires
-    enum-known-said
-    enum-told
-    keys-of-requires
-    array-share-prefix-keys
-    slice-aggregate-add-value
-    add-value-requires
-    same-length
-    returns
-    same-length-2
-    returns-2
-    same-length-3
-    returns-3)
+    tie.close (tie.spec (λ c κs. search needs) (λ c κs. search needs) (λ c. search needs) (λ c. search needs) keys-of-requires array-share-prefix-keys
+    slice-aggregate-add-value add-value-requires (λ c. search needs) returns (λ c. search needs) returns-2 (λ c. search needs) returns-3)

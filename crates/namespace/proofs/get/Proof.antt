@@ -8,9 +8,6 @@ use borrow.Author.Needs.{needs}
 use Rattle.namespace.proofs.get.Statement.{statement}
 use Rattle.namespace.proofs.get.Tie as tie
 
-well-formed-requires : tie.Need-well-formed-requires
-well-formed-requires c κs = search needs
-
 read-requires : tie.Need-read-requires
 read-requires c κs = sym (c .before .well-formed .ensures) ∙ c .if1 .taken
 
@@ -27,4 +24,4 @@ returns-2 c =
     mean-bad limits ws (λ t. valueOf t (c .before .before .before .args .handle .0)) (sym (c .before .well-formed .ensures) ∙ c .if1 .left)
 
 pub get-spec : {M : Type 1} → statement M
-get-spec = tie.close (tie.spec well-formed-requires read-requires returns returns-2)
+get-spec = tie.close (tie.spec (λ c κs. search needs) read-requires returns returns-2)

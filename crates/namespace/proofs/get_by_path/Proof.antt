@@ -9,20 +9,11 @@ use borrow.Author.Needs.{needs}
 use Rattle.namespace.proofs.get_by_path.Statement.{statement}
 use Rattle.namespace.proofs.get_by_path.Tie as tie
 
-get-handle-requires : tie.Need-get-handle-requires
-get-handle-requires c κs = search needs
-
-enum-known-found : tie.Need-enum-known-found
-enum-known-found c = search needs
-
 read-requires : tie.Need-read-requires
 unfolding getHandleCall
 read-requires c κs =
     let ws = c .before .before .before .before .before .args .table .now in
     call-formed limits ws (settledKeys componentLimit (c .before .before .before .before .before .args .path)) (λ t p. lookUp t p) (λ t h. valueOf t h) (c .before .found .given .0 .0 .0) (sym (ap handleSaid (c .before .found .given .1)) ∙ c .before .before .before .get-handle .ensures)
-
-enum-known-found-2 : tie.Need-enum-known-found-2
-enum-known-found-2 c = search needs
 
 returns : tie.Need-returns
 unfolding getHandleCall getByPathCall
@@ -40,11 +31,4 @@ returns-2 c =
 
 pub get-by-path-spec : {M : Type 1} → statement M
 get-by-path-spec =
-    tie.close
-    (tie.spec
-    get-handle-requires
-    enum-known-found
-    read-requires
-    enum-known-found-2
-    returns
-    returns-2)
+    tie.close (tie.spec (λ c κs. search needs) (λ c. search needs) read-requires (λ c. search needs) returns returns-2)

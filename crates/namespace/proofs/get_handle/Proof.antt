@@ -16,18 +16,6 @@ use native.Mathlib.Omega.{arith}
 use Rattle.namespace.proofs.get_handle.Statement.{statement}
 use Rattle.namespace.proofs.get_handle.Tie as tie
 
-well-formed-requires : tie.Need-well-formed-requires
-well-formed-requires c κs = search needs
-
-settled-requires : tie.Need-settled-requires
-settled-requires c κs = search needs
-
-enum-known-said : tie.Need-enum-known-said
-enum-known-said c = search needs
-
-enum-told : tie.Need-enum-told
-enum-told c = search needs
-
 keys-of-requires : tie.Need-keys-of-requires
 keys-of-requires c κs =
     (settled-done (c .before .before .before .before .before .before .before .args .path) (c .before .before .before .settled .result) (c .before .before .before .settled .ensures) (c .before .enum-told .given .1)) .0
@@ -92,16 +80,5 @@ returns-3 c =
 
 pub get-handle-spec : {M : Type 1} → statement M
 get-handle-spec =
-    tie.close
-    (tie.spec
-    well-formed-requires
-    settled-requires
-    enum-known-said
-    enum-told
-    keys-of-requires
-    array-share-prefix-keys
-    slice-aggregate-look-up
-    look-up-requires
-    returns
-    returns-2
-    returns-3)
+    tie.close (tie.spec (λ c κs. search needs) (λ c κs. search needs) (λ c. search needs) (λ c. search needs) keys-of-requires array-share-prefix-keys
+    slice-aggregate-look-up look-up-requires returns returns-2 returns-3)

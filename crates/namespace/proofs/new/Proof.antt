@@ -1,5 +1,5 @@
 -- Zeros and the root's word are the words of a fresh tree.
-use mathlib.Core.Path.{_≡_, ap, _∙_}
+use mathlib.Core.Path.{ap, _∙_}
 use mathlib.Core.List.{List}
 use Prim.Native.Nat.{ℕ}
 use lib.ListN.{length, set, length-replicate}
@@ -11,15 +11,9 @@ use native.Mathlib.Omega.{arith}
 use Rattle.namespace.proofs.new.Statement.{statement}
 use Rattle.namespace.proofs.new.Tie as tie
 
-clear-requires : tie.Need-clear-requires
-clear-requires c κs = search needs
-
 slice-write-table : tie.Need-slice-write-table
 slice-write-table c =
     omega (arith, ap length (c .before .before .clear .ensures) ∙ length-replicate (length (c .before .before .before .before .before .before .args .table .now)) 0)
-
-same-length : tie.Need-same-length
-same-length c = search needs
 
 returns : tie.Need-returns
 returns c =
@@ -30,4 +24,4 @@ returns-2 : tie.Need-returns-2
 returns-2 c = new-refused limits (c .before .before .args .table .now) (c .if1 .left)
 
 pub new-spec : {M : Type 1} → statement M
-new-spec = tie.close (tie.spec clear-requires slice-write-table same-length returns returns-2)
+new-spec = tie.close (tie.spec (λ c κs. search needs) slice-write-table (λ c. search needs) returns returns-2)

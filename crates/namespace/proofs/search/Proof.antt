@@ -8,21 +8,9 @@ use borrow.Author.Needs.{needs}
 use Rattle.namespace.proofs.search.Statement.{statement}
 use Rattle.namespace.proofs.search.Tie as tie
 
-well-formed-requires : tie.Need-well-formed-requires
-well-formed-requires c κs = search needs
-
-is-path-requires : tie.Need-is-path-requires
-is-path-requires c κs = search needs
-
 search-requires : tie.Need-search-requires
 search-requires c κs =
     (sym (c .before .before .before .well-formed .ensures) ∙ c .before .before .if1 .taken, sym (c .before .is-path .ensures) ∙ c .if2 .taken)
-
-not-found-requires : tie.Need-not-found-requires
-not-found-requires c κs = search needs
-
-not-found-requires-2 : tie.Need-not-found-requires-2
-not-found-requires-2 c κs = search needs
 
 returns : tie.Need-returns
 returns c = c .search .ensures
@@ -42,13 +30,4 @@ returns-3 c =
 
 pub search-spec : {M : Type 1} → statement M
 search-spec =
-    tie.close
-    (tie.spec
-    well-formed-requires
-    is-path-requires
-    search-requires
-    not-found-requires
-    not-found-requires-2
-    returns
-    returns-2
-    returns-3)
+    tie.close (tie.spec (λ c κs. search needs) (λ c κs. search needs) search-requires (λ c κs. search needs) (λ c κs. search needs) returns returns-2 returns-3)

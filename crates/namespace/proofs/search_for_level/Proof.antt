@@ -8,21 +8,9 @@ use borrow.Author.Needs.{needs}
 use Rattle.namespace.proofs.search_for_level.Statement.{statement}
 use Rattle.namespace.proofs.search_for_level.Tie as tie
 
-well-formed-requires : tie.Need-well-formed-requires
-well-formed-requires c κs = search needs
-
-is-path-requires : tie.Need-is-path-requires
-is-path-requires c κs = search needs
-
 search-for-level-requires : tie.Need-search-for-level-requires
 search-for-level-requires c κs =
     (sym (c .before .before .before .well-formed .ensures) ∙ c .before .before .if1 .taken, sym (c .before .is-path .ensures) ∙ c .if2 .taken)
-
-no-level-requires : tie.Need-no-level-requires
-no-level-requires c κs = search needs
-
-no-level-requires-2 : tie.Need-no-level-requires-2
-no-level-requires-2 c κs = search needs
 
 returns : tie.Need-returns
 returns c = c .search-for-level .ensures
@@ -42,13 +30,5 @@ returns-3 c =
 
 pub search-for-level-spec : {M : Type 1} → statement M
 search-for-level-spec =
-    tie.close
-    (tie.spec
-    well-formed-requires
-    is-path-requires
-    search-for-level-requires
-    no-level-requires
-    no-level-requires-2
-    returns
-    returns-2
+    tie.close (tie.spec (λ c κs. search needs) (λ c κs. search needs) search-for-level-requires (λ c κs. search needs) (λ c κs. search needs) returns returns-2
     returns-3)

@@ -9,14 +9,8 @@ use borrow.Author.Needs.{needs}
 use Rattle.namespace.proofs.set.Statement.{statement}
 use Rattle.namespace.proofs.set.Tie as tie
 
-well-formed-requires : tie.Need-well-formed-requires
-well-formed-requires c κs = search needs
-
 write-requires : tie.Need-write-requires
 write-requires c κs = sym (c .before .before .well-formed .ensures) ∙ c .before .if1 .taken
-
-same-length : tie.Need-same-length
-same-length c = search needs
 
 returns : tie.Need-returns
 unfolding setCall
@@ -27,9 +21,6 @@ returns c =
     let ws = c8 .args .table .now in
     c .before .before .write .ensures ∙ ap (left limits ws) (mean-given limits ws (λ t. done (setValue t (c8 .args .handle .0) (c8 .args .value))) (sym (c5 .well-formed .ensures) ∙ c4 .if1 .taken))
 
-same-length-2 : tie.Need-same-length-2
-same-length-2 c = search needs
-
 returns-2 : tie.Need-returns-2
 unfolding setCall
 returns-2 c =
@@ -39,4 +30,4 @@ returns-2 c =
 pub set-spec : {M : Type 1} → statement M
 set-spec =
     tie.close
-    (tie.spec well-formed-requires write-requires same-length returns same-length-2 returns-2)
+    (tie.spec (λ c κs. search needs) write-requires (λ c. search needs) returns (λ c. search needs) returns-2)

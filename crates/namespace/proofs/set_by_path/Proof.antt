@@ -10,12 +10,6 @@ use borrow.Author.Needs.{needs}
 use Rattle.namespace.proofs.set_by_path.Statement.{statement}
 use Rattle.namespace.proofs.set_by_path.Tie as tie
 
-get-handle-requires : tie.Need-get-handle-requires
-get-handle-requires c κs = search needs
-
-enum-known-found : tie.Need-enum-known-found
-enum-known-found c = search needs
-
 write-requires : tie.Need-write-requires
 unfolding getHandleCall
 write-requires c κs =
@@ -24,12 +18,6 @@ write-requires c κs =
     let ws = c7 .args .table .now in
     call-formed limits ws (settledKeys componentLimit (c7 .args .path)) (λ t p. lookUp t p) (λ t h. done (setValue t h (c7 .args .value))) (c .before .before .found .given .0 .0 .0)
     (sym (ap handleSaid (c .before .before .found .given .1)) ∙ c4 .get-handle .ensures)
-
-enum-known-found-2 : tie.Need-enum-known-found-2
-enum-known-found-2 c = search needs
-
-same-length : tie.Need-same-length
-same-length c = search needs
 
 returns : tie.Need-returns
 unfolding getHandleCall setByPathCall
@@ -41,9 +29,6 @@ returns c =
     c .before .before .write .ensures ∙ ap (left limits ws) (then-given limits ws (settledKeys componentLimit (c10 .args .path)) (λ t p. lookUp t p) (λ t h. done (setValue t h (c10 .args .value))) (c5 .found .given .0 .0 .0)
     (sym (ap handleSaid (c5 .found .given .1)) ∙ c7 .get-handle .ensures))
 
-same-length-2 : tie.Need-same-length-2
-same-length-2 c = search needs
-
 returns-2 : tie.Need-returns-2
 unfolding getHandleCall setByPathCall
 returns-2 c =
@@ -54,13 +39,4 @@ returns-2 c =
 
 pub set-by-path-spec : {M : Type 1} → statement M
 set-by-path-spec =
-    tie.close
-    (tie.spec
-    get-handle-requires
-    enum-known-found
-    write-requires
-    enum-known-found-2
-    same-length
-    returns
-    same-length-2
-    returns-2)
+    tie.close (tie.spec (λ c κs. search needs) (λ c. search needs) write-requires (λ c. search needs) (λ c. search needs) returns (λ c. search needs) returns-2)

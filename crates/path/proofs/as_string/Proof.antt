@@ -13,9 +13,6 @@ use native.Mathlib.Omega.{arith}
 use Rattle.path.proofs.as_string.Statement.{statement}
 use Rattle.path.proofs.as_string.Tie as tie
 
-holds-path-requires : tie.Need-holds-path-requires
-holds-path-requires c κs = search needs
-
 text-length-requires : tie.Need-text-length-requires
 text-length-requires c κs =
     let len : length (c .before .before .before .before .before .before .before .args .t1 .bytes) ≡ 128 = search needs in
@@ -52,12 +49,4 @@ returns-3 c =
 
 pub as-string-spec : {M : Type 1} → statement M
 as-string-spec =
-    tie.close
-    (tie.spec
-    holds-path-requires
-    text-length-requires
-    write-text-requires
-    same-length
-    returns
-    returns-2
-    returns-3)
+    tie.close (tie.spec (λ c κs. search needs) text-length-requires write-text-requires same-length returns returns-2 returns-3)

@@ -1,5 +1,5 @@
 -- Memory that passes the test is the memory of its components.
-use mathlib.Core.Path.{_≡_, refl, sym, _∙_, ap}
+use mathlib.Core.Path.{_≡_, refl, sym, _∙_}
 use lib.ListN.{length}
 use Rattle.name_object.specs.Component.{componentLimit}
 use Rattle.name_object.proofs.Paths.{name-whole}
@@ -10,9 +10,6 @@ use borrow.Author.Needs.{needs}
 use Rattle.path.proofs.from_components.Statement.{statement}
 use Rattle.path.proofs.from_components.Tie as tie
 
-holds-path-requires : tie.Need-holds-path-requires
-holds-path-requires c κs = search needs
-
 returns : tie.Need-returns
 returns c =
     let name = nameIn (c .before .before .before .args .count) (c .before .before .before .args .t2) in
@@ -20,13 +17,10 @@ returns c =
     let len : length (c .before .before .before .args .t2) ≡ 128 = search needs in
     answers-as (made-good componentLimit name ok) (same-told (sym (name-whole componentLimit name len ok)) refl)
 
-refuse-requires : tie.Need-refuse-requires
-refuse-requires c κs = search needs
-
 returns-2 : tie.Need-returns-2
 returns-2 c =
     let name = nameIn (c .before .before .before .before .args .count) (c .before .before .before .before .args .t2) in
     answers-as (made-bad componentLimit name (sym (c .before .before .holds-path .ensures) ∙ c .before .if1 .left)) (c .refuse .ensures)
 
 pub from-components-spec : {M : Type 1} → statement M
-from-components-spec = tie.close (tie.spec holds-path-requires returns refuse-requires returns-2)
+from-components-spec = tie.close (tie.spec (λ c κs. search needs) returns (λ c κs. search needs) returns-2)

@@ -1,5 +1,5 @@
 -- Four bytes that pass the test of a segment are pushed on the empty path.
-use mathlib.Core.Path.{_≡_, refl, sym, _∙_, ap}
+use mathlib.Core.Path.{refl, sym, _∙_}
 use lib.ListN.{getD}
 use Rattle.name_object.specs.Component.{seg}
 use Rattle.path.proofs.Basics.{answers-as, same-told}
@@ -8,36 +8,6 @@ use borrow.Author.Needs.{needs}
 use native.Mathlib.Omega.{arith}
 use Rattle.path.proofs.from_name_seg.Statement.{statement}
 use Rattle.path.proofs.from_name_seg.Tie as tie
-
-array-read-is-segment : tie.Need-array-read-is-segment
-array-read-is-segment c = search needs
-
-array-read-is-segment-2 : tie.Need-array-read-is-segment-2
-array-read-is-segment-2 c = search needs
-
-array-read-is-segment-3 : tie.Need-array-read-is-segment-3
-array-read-is-segment-3 c = search needs
-
-array-read-is-segment-4 : tie.Need-array-read-is-segment-4
-array-read-is-segment-4 c = search needs
-
-is-segment-requires : tie.Need-is-segment-requires
-is-segment-requires c κs = search needs
-
-empty-requires : tie.Need-empty-requires
-empty-requires c κs = search needs
-
-array-read-push : tie.Need-array-read-push
-array-read-push c = search needs
-
-array-read-push-2 : tie.Need-array-read-push-2
-array-read-push-2 c = search needs
-
-array-read-push-3 : tie.Need-array-read-push-3
-array-read-push-3 c = search needs
-
-array-read-push-4 : tie.Need-array-read-push-4
-array-read-push-4 c = search needs
 
 push-requires : tie.Need-push-requires
 push-requires c κs = omega (arith, count-none (c .empty .result) (c .empty .ensures))
@@ -48,28 +18,11 @@ returns c =
     answers-as (seg-good bs (sym (c .before .before .before .is-segment .ensures) ∙ c .before .before .if1 .taken))
     (same-told (push-first _ (c .before .empty .result) (seg (getD bs 0 0) (getD bs 1 0) (getD bs 2 0) (getD bs 3 0)) _ _ _ _ refl (c .push .ensures) (c .before .empty .ensures)) refl)
 
-refuse-requires : tie.Need-refuse-requires
-refuse-requires c κs = search needs
-
 returns-2 : tie.Need-returns-2
 returns-2 c =
     answers-as (seg-bad (c .before .before .before .before .args .seg .0) (sym (c .before .before .is-segment .ensures) ∙ c .before .if1 .left)) (c .refuse .ensures)
 
 pub from-name-seg-spec : {M : Type 1} → statement M
 from-name-seg-spec =
-    tie.close
-    (tie.spec
-    array-read-is-segment
-    array-read-is-segment-2
-    array-read-is-segment-3
-    array-read-is-segment-4
-    is-segment-requires
-    empty-requires
-    array-read-push
-    array-read-push-2
-    array-read-push-3
-    array-read-push-4
-    push-requires
-    returns
-    refuse-requires
-    returns-2)
+    tie.close (tie.spec (λ c. search needs) (λ c. search needs) (λ c. search needs) (λ c. search needs) (λ c κs. search needs) (λ c κs. search needs)
+    (λ c. search needs) (λ c. search needs) (λ c. search needs) (λ c. search needs) push-requires returns (λ c κs. search needs) returns-2)

@@ -1,5 +1,5 @@
 -- Empty text, `\` alone, `\` and parts, parts.
-use mathlib.Core.Path.{_≡_, refl, sym, _∙_, ap}
+use mathlib.Core.Path.{refl, sym}
 use mathlib.Core.List.{[], _∷_}
 use lib.ListN.{drop}
 use Rattle.name_object.specs.Component.{root, componentLimit}
@@ -14,21 +14,9 @@ use native.Mathlib.Omega.{arith}
 use Rattle.path.proofs.from_str.Statement.{statement}
 use Rattle.path.proofs.from_str.Tie as tie
 
-refuse-requires : tie.Need-refuse-requires
-refuse-requires c κs = search needs
-
 returns : tie.Need-returns
 returns c =
     answers-as (text-none componentLimit (c .before .before .before .args .text .now) (omega arith)) (c .refuse .ensures)
-
-shared-slice-read-if2 : tie.Need-shared-slice-read-if2
-shared-slice-read-if2 c = search needs
-
-put-requires : tie.Need-put-requires
-put-requires c κs = search needs
-
-finish-requires : tie.Need-finish-requires
-finish-requires c κs = search needs
 
 returns-2 : tie.Need-returns-2
 unfolding zeros
@@ -38,18 +26,6 @@ returns-2 c =
 
 read-parts-requires : tie.Need-read-parts-requires
 read-parts-requires c κs = (omega arith, omega arith)
-
-enum-known-n : tie.Need-enum-known-n
-enum-known-n c = search needs
-
-finish-requires-2 : tie.Need-finish-requires-2
-finish-requires-2 c κs = search needs
-
-enum-known-p : tie.Need-enum-known-p
-enum-known-p c = search needs
-
-refuse-requires-2 : tie.Need-refuse-requires-2
-refuse-requires-2 c κs = search needs
 
 returns-3 : tie.Need-returns-3
 unfolding zeros
@@ -72,18 +48,6 @@ returns-4 c =
 read-parts-requires-2 : tie.Need-read-parts-requires-2
 read-parts-requires-2 c κs = (omega arith, omega arith)
 
-enum-known-n-2 : tie.Need-enum-known-n-2
-enum-known-n-2 c = search needs
-
-finish-requires-3 : tie.Need-finish-requires-3
-finish-requires-3 c κs = search needs
-
-enum-known-p-2 : tie.Need-enum-known-p-2
-enum-known-p-2 c = search needs
-
-refuse-requires-3 : tie.Need-refuse-requires-3
-refuse-requires-3 c κs = search needs
-
 returns-5 : tie.Need-returns-5
 unfolding zeros
 returns-5 c =
@@ -104,25 +68,6 @@ returns-6 c =
 
 pub from-str-spec : {M : Type 1} → statement M
 from-str-spec =
-    tie.close
-    (tie.spec
-    refuse-requires
-    returns
-    shared-slice-read-if2
-    put-requires
-    finish-requires
-    returns-2
-    read-parts-requires
-    enum-known-n
-    finish-requires-2
-    enum-known-p
-    refuse-requires-2
-    returns-3
-    returns-4
-    read-parts-requires-2
-    enum-known-n-2
-    finish-requires-3
-    enum-known-p-2
-    refuse-requires-3
-    returns-5
-    returns-6)
+    tie.close (tie.spec (λ c κs. search needs) returns (λ c. search needs) (λ c κs. search needs) (λ c κs. search needs) returns-2 read-parts-requires
+    (λ c. search needs) (λ c κs. search needs) (λ c. search needs) (λ c κs. search needs) returns-3 returns-4 read-parts-requires-2 (λ c. search needs)
+    (λ c κs. search needs) (λ c. search needs) (λ c κs. search needs) returns-5 returns-6)

@@ -1,21 +1,13 @@
 -- The test of 26, and then the test itself.
-use mathlib.Core.Path.{_≡_, refl, sym, _∙_, ap}
+use mathlib.Core.Path.{sym, _∙_, ap}
 use mathlib.Core.Bool.{Bool}
-use lib.ListN.{length}
 use Rattle.pkg_length.specs.Refusal.{gives}
 use Rattle.name_object.specs.Component.{componentLimit}
 use Rattle.path.specs.Normal.{absolute}
 use Rattle.path.proofs.Basics.{path-good, path-bad}
 use borrow.Author.Needs.{needs}
-use native.Mathlib.Omega.{arith}
 use Rattle.path.proofs.is_absolute.Statement.{statement}
 use Rattle.path.proofs.is_absolute.Tie as tie
-
-holds-path-requires : tie.Need-holds-path-requires
-holds-path-requires c κs = search needs
-
-is-rooted-requires : tie.Need-is-rooted-requires
-is-rooted-requires c κs = search needs
 
 returns : tie.Need-returns
 returns c =
@@ -27,4 +19,4 @@ returns-2 c =
     path-bad componentLimit (c .before .before .before .before .args .t1) (λ cs. gives (absolute cs)) (sym (c .before .holds-path .ensures) ∙ c .if1 .left)
 
 pub is-absolute-spec : {M : Type 1} → statement M
-is-absolute-spec = tie.close (tie.spec holds-path-requires is-rooted-requires returns returns-2)
+is-absolute-spec = tie.close (tie.spec (λ c κs. search needs) (λ c κs. search needs) returns returns-2)

@@ -1,5 +1,5 @@
 -- The test of 26, and then the test itself.
-use mathlib.Core.Path.{_≡_, refl, sym, _∙_, ap}
+use mathlib.Core.Path.{_≡_, sym, _∙_, ap}
 use mathlib.Core.Bool.{Bool}
 use lib.ListN.{length}
 use Rattle.pkg_length.specs.Refusal.{gives}
@@ -7,12 +7,8 @@ use Rattle.name_object.specs.Component.{componentLimit}
 use Rattle.path.specs.Normal.{isNormal}
 use Rattle.path.proofs.Basics.{path-good, path-bad}
 use borrow.Author.Needs.{needs}
-use native.Mathlib.Omega.{arith}
 use Rattle.path.proofs.is_normal.Statement.{statement}
 use Rattle.path.proofs.is_normal.Tie as tie
-
-holds-path-requires : tie.Need-holds-path-requires
-holds-path-requires c κs = search needs
 
 has-no-prefix-requires : tie.Need-has-no-prefix-requires
 has-no-prefix-requires c κs =
@@ -29,4 +25,4 @@ returns-2 c =
     path-bad componentLimit (c .before .before .before .before .args .t1) (λ cs. gives (isNormal cs)) (sym (c .before .holds-path .ensures) ∙ c .if1 .left)
 
 pub is-normal-spec : {M : Type 1} → statement M
-is-normal-spec = tie.close (tie.spec holds-path-requires has-no-prefix-requires returns returns-2)
+is-normal-spec = tie.close (tie.spec (λ c κs. search needs) has-no-prefix-requires returns returns-2)

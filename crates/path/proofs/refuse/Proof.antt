@@ -5,11 +5,8 @@ use borrow.Author.Needs.{needs}
 use Rattle.path.proofs.refuse.Statement.{statement}
 use Rattle.path.proofs.refuse.Tie as tie
 
-empty-requires : tie.Need-empty-requires
-empty-requires c κs = search needs
-
 returns : tie.Need-returns
 returns c = same-told (c .empty .ensures) refl
 
 pub refuse-spec : {M : Type 1} → statement M
-refuse-spec = tie.close (tie.spec empty-requires returns)
+refuse-spec = tie.close (tie.spec (λ c κs. search needs) returns)

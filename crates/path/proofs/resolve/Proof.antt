@@ -1,5 +1,5 @@
 -- The test of 26 on the path and on the scope, and then the walk.
-use mathlib.Core.Path.{_≡_, refl, sym, _∙_, ap}
+use mathlib.Core.Path.{_≡_, sym, _∙_}
 use lib.ListN.{length}
 use Rattle.pkg_length.specs.Refusal.{andThen}
 use Rattle.name_object.specs.Component.{componentLimit}
@@ -7,15 +7,8 @@ use Rattle.name_object.specs.Memory.{pathOf, pathIn}
 use Rattle.path.specs.Normal.{resolved}
 use Rattle.path.proofs.Basics.{answers-as, path-good, path-bad}
 use borrow.Author.Needs.{needs}
-use native.Mathlib.Omega.{arith}
 use Rattle.path.proofs.resolve.Statement.{statement}
 use Rattle.path.proofs.resolve.Tie as tie
-
-holds-path-requires : tie.Need-holds-path-requires
-holds-path-requires c κs = search needs
-
-holds-path-requires-2 : tie.Need-holds-path-requires-2
-holds-path-requires-2 c κs = search needs
 
 resolved-requires : tie.Need-resolved-requires
 resolved-requires c κs =
@@ -31,9 +24,6 @@ returns c =
     ∙ path-good componentLimit (a .t1) (λ cs. andThen (pathIn componentLimit (a .t2)) (λ ss. resolved componentLimit cs ss)) (sym (c .before .before .before .before .before .before .before .before .before .before .holds-path .ensures) ∙ c .before .before .before .before .before .before .before .before .before .if1 .taken))
     (c .resolved .ensures)
 
-refuse-requires : tie.Need-refuse-requires
-refuse-requires c κs = search needs
-
 returns-2 : tie.Need-returns-2
 returns-2 c =
     let a = c .before .before .before .before .before .before .before .before .before .args in
@@ -41,9 +31,6 @@ returns-2 c =
     (path-bad componentLimit (a .t2) (resolved componentLimit (pathOf (a .t1))) (sym (c .before .before .holds-path2 .ensures) ∙ c .before .if2 .left)
     ∙ path-good componentLimit (a .t1) (λ cs. andThen (pathIn componentLimit (a .t2)) (λ ss. resolved componentLimit cs ss)) (sym (c .before .before .before .before .before .before .holds-path .ensures) ∙ c .before .before .before .before .before .if1 .taken))
     (c .refuse .ensures)
-
-refuse-requires-2 : tie.Need-refuse-requires-2
-refuse-requires-2 c κs = search needs
 
 returns-3 : tie.Need-returns-3
 returns-3 c =
@@ -53,13 +40,5 @@ returns-3 c =
 
 pub resolve-spec : {M : Type 1} → statement M
 resolve-spec =
-    tie.close
-    (tie.spec
-    holds-path-requires
-    holds-path-requires-2
-    resolved-requires
-    returns
-    refuse-requires
-    returns-2
-    refuse-requires-2
+    tie.close (tie.spec (λ c κs. search needs) (λ c κs. search needs) resolved-requires returns (λ c κs. search needs) returns-2 (λ c κs. search needs)
     returns-3)

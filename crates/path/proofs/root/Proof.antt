@@ -1,14 +1,11 @@
 -- The root is pushed on the empty path.
-use mathlib.Core.Path.{_≡_, refl, sym, _∙_, ap}
+use mathlib.Core.Path.{refl}
 use Rattle.name_object.specs.Component.{root}
 use Rattle.path.proofs.Flags.{push-first, count-none}
 use borrow.Author.Needs.{needs}
 use native.Mathlib.Omega.{arith}
 use Rattle.path.proofs.root.Statement.{statement}
 use Rattle.path.proofs.root.Tie as tie
-
-empty-requires : tie.Need-empty-requires
-empty-requires c κs = search needs
 
 push-requires : tie.Need-push-requires
 push-requires c κs = omega (arith, count-none (c .empty .result) (c .empty .ensures))
@@ -18,4 +15,4 @@ returns c =
     push-first _ (c .before .empty .result) root 0x5C 0 0 0 refl (c .push .ensures) (c .before .empty .ensures)
 
 pub root-spec : {M : Type 1} → statement M
-root-spec = tie.close (tie.spec empty-requires push-requires returns)
+root-spec = tie.close (tie.spec (λ c κs. search needs) push-requires returns)

@@ -1,5 +1,5 @@
 -- The test of 26, and then the test itself.
-use mathlib.Core.Path.{_≡_, refl, sym, _∙_, ap}
+use mathlib.Core.Path.{_≡_, sym, _∙_, ap}
 use mathlib.Core.Bool.{Bool}
 use lib.ListN.{length}
 use Rattle.pkg_length.specs.Refusal.{gives}
@@ -7,12 +7,8 @@ use Rattle.name_object.specs.Component.{componentLimit}
 use Rattle.path.specs.Normal.{oneSegment}
 use Rattle.path.proofs.Basics.{path-good, path-bad}
 use borrow.Author.Needs.{needs}
-use native.Mathlib.Omega.{arith}
 use Rattle.path.proofs.search_rules_apply.Statement.{statement}
 use Rattle.path.proofs.search_rules_apply.Tie as tie
-
-holds-path-requires : tie.Need-holds-path-requires
-holds-path-requires c κs = search needs
 
 is-one-segment-requires : tie.Need-is-one-segment-requires
 is-one-segment-requires c κs =
@@ -30,4 +26,4 @@ returns-2 c =
 
 pub search-rules-apply-spec : {M : Type 1} → statement M
 search-rules-apply-spec =
-    tie.close (tie.spec holds-path-requires is-one-segment-requires returns returns-2)
+    tie.close (tie.spec (λ c κs. search needs) is-one-segment-requires returns returns-2)

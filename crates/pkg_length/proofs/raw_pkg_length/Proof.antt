@@ -15,17 +15,11 @@ returns c = raw-over _ (omega arith)
 returns-2 : tie.Need-returns-2
 returns-2 c = spelt-empty _ (omega arith) ∙ raw-spelt _ (omega arith)
 
-shared-slice-read-lead-byte : tie.Need-shared-slice-read-lead-byte
-shared-slice-read-lead-byte c = search needs
-
 cast-lead-byte : tie.Need-cast-lead-byte
 cast-lead-byte c = omega (arith, c .shared-slice-known2 .given 0)
 
 returns-3 : tie.Need-returns-3
 returns-3 c = spelt-plain _ (omega arith) (omega arith) ∙ raw-spelt _ (omega arith)
-
-sub-if4 : tie.Need-sub-if4
-sub-if4 c = search needs
 
 returns-4 : tie.Need-returns-4
 returns-4 c = spelt-short _ (omega arith) (λ e. omega arith) (omega arith) ∙ raw-spelt _ (omega arith)
@@ -45,26 +39,11 @@ add-t16 c =
     let byte = c .before .before .before .shared-slice-known2 .given in
     omega (arith, little-within 3 (getD xs 0 0 / 64) 1 xs (λ i. byte i .fits) (omega (arith, byte 0)), c .little-endian .ensures)
 
-add-t17 : tie.Need-add-t17
-add-t17 c = search needs
-
 returns-5 : tie.Need-returns-5
 returns-5 c =
     rw (c .little-endian .ensures) (spelt-long _ (omega arith) (λ e. omega arith) (omega arith)) ∙ raw-spelt _ (omega arith)
 
 pub raw-pkg-length-spec : {M : Type 1} → statement M
 raw-pkg-length-spec =
-    tie.close
-    (tie.spec
-    returns
-    returns-2
-    shared-slice-read-lead-byte
-    cast-lead-byte
-    returns-3
-    sub-if4
-    returns-4
-    little-endian-requires
-    mul-t12
-    add-t16
-    add-t17
-    returns-5)
+    tie.close (tie.spec returns returns-2 (λ c. search needs) cast-lead-byte returns-3 (λ c. search needs) returns-4 little-endian-requires mul-t12 add-t16
+    (λ c. search needs) returns-5)

@@ -13,17 +13,11 @@ returns : tie.Need-returns
 returns c =
     let s = c .before .before .args .block .now in check-accepts-exactly s _ (too-long s (c .if1 .taken))
 
-term-list-requires : tie.Need-term-list-requires
-term-list-requires c κs = search needs
-
 returns-2 : tie.Need-returns-2
 returns-2 c =
     let s = c .before .before .before .before .before .args .block .now in
     let r = c .before .before .term-list in
     check-accepts-exactly s _ (all-read s (c .before .before .before .if1 .left) _ (sym (goes-on (r .result) (c .if2 .taken)) ∙ r .ensures))
-
-refusal-requires : tie.Need-refusal-requires
-refusal-requires c κs = search needs
 
 returns-3 : tie.Need-returns-3
 returns-3 c =
@@ -34,4 +28,4 @@ returns-3 c =
     ∙ not-read s (c .before .before .before .before .if1 .left) _ _ (sym (stands (r .result) (c .before .if2 .left)) ∙ r .ensures))
 
 pub check-spec : {M : Type 1} → statement M
-check-spec = tie.close (tie.spec returns term-list-requires returns-2 refusal-requires returns-3)
+check-spec = tie.close (tie.spec returns (λ c κs. search needs) returns-2 (λ c κs. search needs) returns-3)

@@ -3,24 +3,6 @@ use borrow.Author.Needs.{needs}
 use Rattle.statement.proofs.ended.Statement.{statement}
 use Rattle.statement.proofs.ended.Tie as tie
 
-enum-told : tie.Need-enum-told
-enum-told c = search needs
-
-enum-known-out : tie.Need-enum-known-out
-enum-known-out c = search needs
-
-enum-told-2 : tie.Need-enum-told-2
-enum-told-2 c = search needs
-
-enum-told-3 : tie.Need-enum-told-3
-enum-told-3 c = search needs
-
-enum-told-4 : tie.Need-enum-told-4
-enum-told-4 c = search needs
-
-enum-known-out-2 : tie.Need-enum-known-out-2
-enum-known-out-2 c = search needs
-
 returns : tie.Need-returns
 returns c = rw (c .enum-told .given .1)
 
@@ -41,17 +23,5 @@ returns-6 c = rw (c .before .out2 .given .1)
 
 pub ended-spec : {M : Type 1} → statement M
 ended-spec =
-    tie.close
-    (tie.spec
-    enum-told
-    enum-known-out
-    enum-told-2
-    enum-told-3
-    enum-told-4
-    enum-known-out-2
-    returns
-    returns-2
-    returns-3
-    returns-4
-    returns-5
-    returns-6)
+    tie.close (tie.spec (λ c. search needs) (λ c. search needs) (λ c. search needs) (λ c. search needs) (λ c. search needs) (λ c. search needs) returns
+    returns-2 returns-3 returns-4 returns-5 returns-6)

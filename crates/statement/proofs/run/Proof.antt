@@ -10,24 +10,12 @@ use native.Mathlib.Omega.{arith}
 use Rattle.statement.proofs.run.Statement.{statement}
 use Rattle.statement.proofs.run.Tie as tie
 
-check-requires : tie.Need-check-requires
-check-requires c κs = search needs
-
-enum-known-v : tie.Need-enum-known-v
-enum-known-v c = search needs
-
-enum-told : tie.Need-enum-told
-enum-told c = search needs
-
 term-list-requires : tie.Need-term-list-requires
 term-list-requires c κs =
     let c-args = c .before .before .before .before .before .before .before .before .args in
     let c-check = c .before .before .before .before .before .before .check in
     let c-enum-told = c .before .before .before .before .enum-told in
     run-ready (c-args .block .now) (c-check .result) (c-check .ensures) (c-enum-told .given .1)
-
-ended-requires : tie.Need-ended-requires
-ended-requires c κs = search needs
 
 sub-t18 : tie.Need-sub-t18
 sub-t18 c =
@@ -51,13 +39,4 @@ returns-2 c =
 
 pub run-spec : {M : Type 1} → statement M
 run-spec =
-    tie.close
-    (tie.spec
-    check-requires
-    enum-known-v
-    enum-told
-    term-list-requires
-    ended-requires
-    sub-t18
-    returns
-    returns-2)
+    tie.close (tie.spec (λ c κs. search needs) (λ c. search needs) (λ c. search needs) term-list-requires (λ c κs. search needs) sub-t18 returns returns-2)

@@ -15,24 +15,6 @@ use Rattle.table.proofs.well_formed.Tie as tie
 slice-aggregate-parts-fit : tie.Need-slice-aggregate-parts-fit
 slice-aggregate-parts-fit c = sym (length-take-le 128 (c .before .before .before .args .table .now) (omega arith))
 
-sub-parts-fit : tie.Need-sub-parts-fit
-sub-parts-fit c = search needs
-
-part-parts-fit-start : tie.Need-part-parts-fit-start
-part-parts-fit-start c = search needs
-
-part-parts-fit-end : tie.Need-part-parts-fit-end
-part-parts-fit-end c = search needs
-
-sub-parts-fit-2 : tie.Need-sub-parts-fit-2
-sub-parts-fit-2 c = search needs
-
-part-parts-fit-start-2 : tie.Need-part-parts-fit-start-2
-part-parts-fit-start-2 c = search needs
-
-part-parts-fit-end-2 : tie.Need-part-parts-fit-end-2
-part-parts-fit-end-2 c = search needs
-
 parts-fit-requires : tie.Need-parts-fit-requires
 parts-fit-requires c κs =
     let a = c .before .before .before .before .before .args in
@@ -49,15 +31,5 @@ returns-2 c =
 
 pub well-formed-spec : {M : Type 1} → statement M
 well-formed-spec =
-    tie.close
-    (tie.spec
-    slice-aggregate-parts-fit
-    sub-parts-fit
-    part-parts-fit-start
-    part-parts-fit-end
-    sub-parts-fit-2
-    part-parts-fit-start-2
-    part-parts-fit-end-2
-    parts-fit-requires
-    returns
-    returns-2)
+    tie.close (tie.spec slice-aggregate-parts-fit (λ c. search needs) (λ c. search needs) (λ c. search needs) (λ c. search needs) (λ c. search needs)
+    (λ c. search needs) parts-fit-requires returns returns-2)

@@ -8,21 +8,9 @@ use Rattle.klem_c.proofs.Runs.{check-left, check-unfit}
 use Rattle.klem_c.proofs.blocks.klem_check.Statement.{statement}
 use Rattle.klem_c.proofs.blocks.klem_check.Tie as tie
 
-fit-requires : tie.Need-fit-requires
-fit-requires c κs = search needs
-
-check-requires : tie.Need-check-requires
-check-requires c κs = search needs
-
-verdict-requires : tie.Need-verdict-requires
-verdict-requires c κs = search needs
-
 tell-requires : tie.Need-tell-requires
 tell-requires c κs =
     eqb-true _ _ (sym (c .before .before .before .before .fit .ensures) ∙ c .before .before .before .if1 .taken)
-
-same-length : tie.Need-same-length
-same-length c = search needs
 
 returns : tie.Need-returns
 returns c =
@@ -39,12 +27,4 @@ returns-2 c = check-unfit _ _ (sym (c .before .fit .ensures) ∙ c .if1 .left)
 
 pub klem-check-spec : {M : Type 1} → statement M
 klem-check-spec =
-    tie.close
-    (tie.spec
-    fit-requires
-    check-requires
-    verdict-requires
-    tell-requires
-    same-length
-    returns
-    returns-2)
+    tie.close (tie.spec (λ c κs. search needs) (λ c κs. search needs) (λ c κs. search needs) tell-requires (λ c. search needs) returns returns-2)

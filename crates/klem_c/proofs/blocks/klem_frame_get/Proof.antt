@@ -9,24 +9,12 @@ use Rattle.klem_c.proofs.Results.{answered}
 use Rattle.klem_c.proofs.blocks.klem_frame_get.Statement.{statement}
 use Rattle.klem_c.proofs.blocks.klem_frame_get.Tie as tie
 
-fit-one-requires : tie.Need-fit-one-requires
-fit-one-requires c κs = search needs
-
 frame-in-requires : tie.Need-frame-in-requires
 frame-in-requires c κs = c .before .fit-one .ensures .1 (c .if1 .taken) .1
-
-get-requires : tie.Need-get-requires
-get-requires c κs = search needs
-
-cell-requires : tie.Need-cell-requires
-cell-requires c κs = search needs
 
 tell-requires : tie.Need-tell-requires
 tell-requires c κs =
     c .before .before .before .before .before .fit-one .ensures .1 (c .before .before .before .before .if1 .taken) .0
-
-same-length : tie.Need-same-length
-same-length c = search needs
 
 returns : tie.Need-returns
 unfolding klemFrameGet
@@ -46,13 +34,5 @@ returns-2 c = rw (sym (c .before .fit-one .ensures .0) ∙ c .if1 .left)
 
 pub klem-frame-get-spec : {M : Type 1} → statement M
 klem-frame-get-spec =
-    tie.close
-    (tie.spec
-    fit-one-requires
-    frame-in-requires
-    get-requires
-    cell-requires
-    tell-requires
-    same-length
-    returns
+    tie.close (tie.spec (λ c κs. search needs) frame-in-requires (λ c κs. search needs) (λ c κs. search needs) tell-requires (λ c. search needs) returns
     returns-2)

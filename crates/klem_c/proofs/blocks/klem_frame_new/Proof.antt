@@ -10,29 +10,14 @@ use Rattle.klem_c.proofs.Results.{tells}
 use Rattle.klem_c.proofs.blocks.klem_frame_new.Statement.{statement}
 use Rattle.klem_c.proofs.blocks.klem_frame_new.Tie as tie
 
-fit-one-requires : tie.Need-fit-one-requires
-fit-one-requires c κs = search needs
-
-new-requires : tie.Need-new-requires
-new-requires c κs = search needs
-
 put-frame-requires : tie.Need-put-frame-requires
 put-frame-requires c κs = c .before .before .before .fit-one .ensures .1 (c .before .before .if1 .taken) .1
-
-given-requires : tie.Need-given-requires
-given-requires c κs = search needs
 
 tell-requires : tie.Need-tell-requires
 tell-requires c κs =
     let at-if1 = c .before .before .before .before .before .before .before in
     let at-fit-one = at-if1 .before in
     at-fit-one .fit-one .ensures .1 (at-if1 .if1 .taken) .0
-
-same-length : tie.Need-same-length
-same-length c = search needs
-
-same-length-2 : tie.Need-same-length-2
-same-length-2 c = search needs
 
 returns : tie.Need-returns
 unfolding klemFrameNew
@@ -52,14 +37,5 @@ returns-2 c = rw (sym (c .before .fit-one .ensures .0) ∙ c .if1 .left)
 
 pub klem-frame-new-spec : {M : Type 1} → statement M
 klem-frame-new-spec =
-    tie.close
-    (tie.spec
-    fit-one-requires
-    new-requires
-    put-frame-requires
-    given-requires
-    tell-requires
-    same-length
-    same-length-2
-    returns
-    returns-2)
+    tie.close (tie.spec (λ c κs. search needs) (λ c κs. search needs) put-frame-requires (λ c κs. search needs) tell-requires (λ c. search needs)
+    (λ c. search needs) returns returns-2)

@@ -9,33 +9,18 @@ use Rattle.klem_c.proofs.Results.{tells}
 use Rattle.klem_c.proofs.blocks.klem_frame_set.Statement.{statement}
 use Rattle.klem_c.proofs.blocks.klem_frame_set.Tie as tie
 
-fit-one-requires : tie.Need-fit-one-requires
-fit-one-requires c κs = search needs
-
 frame-in-requires : tie.Need-frame-in-requires
 frame-in-requires c κs = c .before .before .before .fit-one .ensures .1 (c .before .before .if1 .taken) .1
-
-with-requires : tie.Need-with-requires
-with-requires c κs = search needs
 
 put-frame-requires : tie.Need-put-frame-requires
 put-frame-requires c κs =
     let at-if1 = c .before .before .before .before .before in
     at-if1 .before .fit-one .ensures .1 (at-if1 .if1 .taken) .1
 
-given-requires : tie.Need-given-requires
-given-requires c κs = search needs
-
 tell-requires : tie.Need-tell-requires
 tell-requires c κs =
     let at-if1 = c .before .before .before .before .before .before .before .before .before .before in
     at-if1 .before .fit-one .ensures .1 (at-if1 .if1 .taken) .0
-
-same-length : tie.Need-same-length
-same-length c = search needs
-
-same-length-2 : tie.Need-same-length-2
-same-length-2 c = search needs
 
 returns : tie.Need-returns
 unfolding klemFrameSet
@@ -52,14 +37,8 @@ returns c =
     (tells _ _ _ _ (sym (at-fit-one .fit-one .ensures .0) ∙ at-if1 .if1 .taken) (at-tell .tell .ensures) (ap wordsOf (at-given .given .ensures))
     (at-put-frame .put-frame .ensures ∙ ap frameWords (rw (at-frame-in .frame-in .ensures) at (at-with .with .ensures))))
 
-numbered-requires : tie.Need-numbered-requires
-numbered-requires c κs = search needs
-
 tell-requires-2 : tie.Need-tell-requires-2
 tell-requires-2 c κs = c .before .before .before .before .fit-one .ensures .1 (c .before .before .before .if1 .taken) .0
-
-same-length-3 : tie.Need-same-length-3
-same-length-3 c = search needs
 
 returns-2 : tie.Need-returns-2
 unfolding klemFrameSet
@@ -78,19 +57,5 @@ returns-3 c = rw (sym (c .before .fit-one .ensures .0) ∙ c .if1 .left)
 
 pub klem-frame-set-spec : {M : Type 1} → statement M
 klem-frame-set-spec =
-    tie.close
-    (tie.spec
-    fit-one-requires
-    frame-in-requires
-    with-requires
-    put-frame-requires
-    given-requires
-    tell-requires
-    same-length
-    same-length-2
-    returns
-    numbered-requires
-    tell-requires-2
-    same-length-3
-    returns-2
-    returns-3)
+    tie.close (tie.spec (λ c κs. search needs) frame-in-requires (λ c κs. search needs) put-frame-requires (λ c κs. search needs) tell-requires
+    (λ c. search needs) (λ c. search needs) returns (λ c κs. search needs) tell-requires-2 (λ c. search needs) returns-2 returns-3)

@@ -8,14 +8,8 @@ use Rattle.klem_c.proofs.Runs.{run-unfit, run-kept, run-left}
 use Rattle.klem_c.proofs.blocks.klem_run.Statement.{statement}
 use Rattle.klem_c.proofs.blocks.klem_run.Tie as tie
 
-fit-one-requires : tie.Need-fit-one-requires
-fit-one-requires c κs = search needs
-
 frame-in-requires : tie.Need-frame-in-requires
 frame-in-requires c κs = c .before .before .fit-one .ensures .1 (c .before .if1 .taken) .1
-
-run-requires : tie.Need-run-requires
-run-requires c κs = search needs
 
 put-frame-requires : tie.Need-put-frame-requires
 put-frame-requires c κs =
@@ -23,20 +17,11 @@ put-frame-requires c κs =
     let at-fit-one = at-if1 .before in
     at-fit-one .fit-one .ensures .1 (at-if1 .if1 .taken) .1
 
-end-requires : tie.Need-end-requires
-end-requires c κs = search needs
-
 tell-requires : tie.Need-tell-requires
 tell-requires c κs =
     let at-if1 = c .before .before .before .before .before .before .before .before .before .before .before in
     let at-fit-one = at-if1 .before in
     at-fit-one .fit-one .ensures .1 (at-if1 .if1 .taken) .0
-
-same-length : tie.Need-same-length
-same-length c = search needs
-
-same-length-2 : tie.Need-same-length-2
-same-length-2 c = search needs
 
 returns : tie.Need-returns
 returns c =
@@ -51,20 +36,11 @@ returns c =
     run-left _ _ _ _ _ (at-run .run .result) (rw (at-frame-in .frame-in .ensures) at (at-run .run .ensures))
     (sym (at-fit-one .fit-one .ensures .0) ∙ at-if1 .if1 .taken) (at-tell .tell .ensures) (at-end .end .ensures) (at-if2 .if2 .taken) (at-put-frame .put-frame .ensures)
 
-end-requires-2 : tie.Need-end-requires-2
-end-requires-2 c κs = search needs
-
 tell-requires-2 : tie.Need-tell-requires-2
 tell-requires-2 c κs =
     let at-if1 = c .before .before .before .before .before .before in
     let at-fit-one = at-if1 .before in
     at-fit-one .fit-one .ensures .1 (at-if1 .if1 .taken) .0
-
-same-length-3 : tie.Need-same-length-3
-same-length-3 c = search needs
-
-same-length-4 : tie.Need-same-length-4
-same-length-4 c = search needs
 
 returns-2 : tie.Need-returns-2
 returns-2 c =
@@ -83,20 +59,5 @@ returns-3 c = run-unfit _ _ _ _ (sym (c .before .fit-one .ensures .0) ∙ c .if1
 
 pub klem-run-spec : {M : Type 1} → statement M
 klem-run-spec =
-    tie.close
-    (tie.spec
-    fit-one-requires
-    frame-in-requires
-    run-requires
-    put-frame-requires
-    end-requires
-    tell-requires
-    same-length
-    same-length-2
-    returns
-    end-requires-2
-    tell-requires-2
-    same-length-3
-    same-length-4
-    returns-2
-    returns-3)
+    tie.close (tie.spec (λ c κs. search needs) frame-in-requires (λ c κs. search needs) put-frame-requires (λ c κs. search needs) tell-requires
+    (λ c. search needs) (λ c. search needs) returns (λ c κs. search needs) tell-requires-2 (λ c. search needs) (λ c. search needs) returns-2 returns-3)

@@ -8,24 +8,6 @@ use Rattle.klem_c.proofs.Copies.{put-frame}
 use Rattle.klem_c.proofs.frames.put_frame.Statement.{statement}
 use Rattle.klem_c.proofs.frames.put_frame.Tie as tie
 
-put-flags-requires : tie.Need-put-flags-requires
-put-flags-requires c κs = search needs
-
-sub-copy : tie.Need-sub-copy
-sub-copy c = search needs
-
-part-copy-start : tie.Need-part-copy-start
-part-copy-start c = search needs
-
-part-copy-end : tie.Need-part-copy-end
-part-copy-end c = search needs
-
-copy-requires : tie.Need-copy-requires
-copy-requires c κs = search needs
-
-same-length : tie.Need-same-length
-same-length c = search needs
-
 returns : tie.Need-returns
 returns c =
     let l : length (c .before .before .before .before .before .before .before .before .before .before .before .before .before .args .t2 .set) ≡ cells = search needs in
@@ -37,12 +19,4 @@ returns c =
 
 pub put-frame-spec : {M : Type 1} → statement M
 put-frame-spec =
-    tie.close
-    (tie.spec
-    put-flags-requires
-    sub-copy
-    part-copy-start
-    part-copy-end
-    copy-requires
-    same-length
-    returns)
+    tie.close (tie.spec (λ c κs. search needs) (λ c. search needs) (λ c. search needs) (λ c. search needs) (λ c κs. search needs) (λ c. search needs) returns)

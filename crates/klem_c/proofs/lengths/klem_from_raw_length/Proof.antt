@@ -9,21 +9,9 @@ use Rattle.klem_c.proofs.Results.{answered}
 use Rattle.klem_c.proofs.lengths.klem_from_raw_length.Statement.{statement}
 use Rattle.klem_c.proofs.lengths.klem_from_raw_length.Tie as tie
 
-fit-requires : tie.Need-fit-requires
-fit-requires c κs = search needs
-
-from-raw-length-requires : tie.Need-from-raw-length-requires
-from-raw-length-requires c κs = search needs
-
-fitted-requires : tie.Need-fitted-requires
-fitted-requires c κs = search needs
-
 tell-requires : tie.Need-tell-requires
 tell-requires c κs =
     eqb-true _ _ (sym (c .before .before .before .before .fit .ensures) ∙ c .before .before .before .if1 .taken)
-
-same-length : tie.Need-same-length
-same-length c = search needs
 
 returns : tie.Need-returns
 unfolding klemFromRawLength
@@ -42,12 +30,4 @@ returns-2 c = rw (sym (c .before .fit .ensures) ∙ c .if1 .left)
 
 pub klem-from-raw-length-spec : {M : Type 1} → statement M
 klem-from-raw-length-spec =
-    tie.close
-    (tie.spec
-    fit-requires
-    from-raw-length-requires
-    fitted-requires
-    tell-requires
-    same-length
-    returns
-    returns-2)
+    tie.close (tie.spec (λ c κs. search needs) (λ c κs. search needs) (λ c κs. search needs) tell-requires (λ c. search needs) returns returns-2)

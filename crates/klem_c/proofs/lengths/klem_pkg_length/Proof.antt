@@ -9,21 +9,9 @@ use Rattle.klem_c.proofs.Results.{answered}
 use Rattle.klem_c.proofs.lengths.klem_pkg_length.Statement.{statement}
 use Rattle.klem_c.proofs.lengths.klem_pkg_length.Tie as tie
 
-fit-requires : tie.Need-fit-requires
-fit-requires c κs = search needs
-
-pkg-length-requires : tie.Need-pkg-length-requires
-pkg-length-requires c κs = search needs
-
-pkg-requires : tie.Need-pkg-requires
-pkg-requires c κs = search needs
-
 tell-requires : tie.Need-tell-requires
 tell-requires c κs =
     eqb-true _ _ (sym (c .before .before .before .before .fit .ensures) ∙ c .before .before .before .if1 .taken)
-
-same-length : tie.Need-same-length
-same-length c = search needs
 
 returns : tie.Need-returns
 unfolding klemPkgLength
@@ -42,12 +30,4 @@ returns-2 c = rw (sym (c .before .fit .ensures) ∙ c .if1 .left)
 
 pub klem-pkg-length-spec : {M : Type 1} → statement M
 klem-pkg-length-spec =
-    tie.close
-    (tie.spec
-    fit-requires
-    pkg-length-requires
-    pkg-requires
-    tell-requires
-    same-length
-    returns
-    returns-2)
+    tie.close (tie.spec (λ c κs. search needs) (λ c κs. search needs) (λ c κs. search needs) tell-requires (λ c. search needs) returns returns-2)

@@ -12,15 +12,6 @@ use Rattle.klem_c.proofs.Results.{name-numbered, count-small, named}
 use Rattle.klem_c.proofs.names.klem_name_string.Statement.{statement}
 use Rattle.klem_c.proofs.names.klem_name_string.Tie as tie
 
-fit-one-requires : tie.Need-fit-one-requires
-fit-one-requires c κs = search needs
-
-name-string-requires : tie.Need-name-string-requires
-name-string-requires c κs = search needs
-
-name-requires : tie.Need-name-requires
-name-requires c κs = search needs
-
 tell-path-requires : tie.Need-tell-path-requires
 tell-path-requires c κs =
     let l : length (c .before .before .before .before .name-string .result .name .bytes) ≡ 128 = search needs in
@@ -32,12 +23,6 @@ tell-path-requires c κs =
       at-fit-one .fit-one .ensures .1 (at-if1 .if1 .taken) .0,
       count-small _ (nameString componentLimit (at-args .args .input .now)) (at-name-string .name-string .ensures) l,
     )
-
-same-length : tie.Need-same-length
-same-length c = search needs
-
-same-length-2 : tie.Need-same-length-2
-same-length-2 c = search needs
 
 returns : tie.Need-returns
 unfolding klemNameString
@@ -58,13 +43,5 @@ returns-2 c = rw (sym (c .before .fit-one .ensures .0) ∙ c .if1 .left)
 
 pub klem-name-string-spec : {M : Type 1} → statement M
 klem-name-string-spec =
-    tie.close
-    (tie.spec
-    fit-one-requires
-    name-string-requires
-    name-requires
-    tell-path-requires
-    same-length
-    same-length-2
-    returns
+    tie.close (tie.spec (λ c κs. search needs) (λ c κs. search needs) (λ c κs. search needs) tell-path-requires (λ c. search needs) (λ c. search needs) returns
     returns-2)

@@ -13,20 +13,8 @@ use Rattle.klem_c.proofs.Results.{path-numbered, count-small, named}
 use Rattle.klem_c.proofs.paths.klem_from_components.Statement.{statement}
 use Rattle.klem_c.proofs.paths.klem_from_components.Tie as tie
 
-fit-two-requires : tie.Need-fit-two-requires
-fit-two-requires c κs = search needs
-
-slice-aggregate-copy : tie.Need-slice-aggregate-copy
-slice-aggregate-copy c = search needs
-
 copy-requires : tie.Need-copy-requires
 copy-requires c κs = sym (c .before .before .fit-two .ensures .1 (c .before .if1 .taken) .2)
-
-from-components-requires : tie.Need-from-components-requires
-from-components-requires c κs = search needs
-
-path-requires : tie.Need-path-requires
-path-requires c κs = search needs
 
 tell-path-requires : tie.Need-tell-path-requires
 tell-path-requires c κs =
@@ -40,12 +28,6 @@ tell-path-requires c κs =
       at-fit-two .fit-two .ensures .1 (at-if1 .if1 .taken) .0,
       count-small _ (alone (pathIn componentLimit (record { count = at-args .args .count; bytes = at-args .args .bytes .now }))) (rw (at-copy .copy .ensures) at (at-from-components .from-components .ensures)) l,
     )
-
-same-length : tie.Need-same-length
-same-length c = search needs
-
-same-length-2 : tie.Need-same-length-2
-same-length-2 c = search needs
 
 returns : tie.Need-returns
 unfolding klemFromComponents
@@ -68,15 +50,5 @@ returns-2 c = rw (sym (c .before .fit-two .ensures .0) ∙ c .if1 .left)
 
 pub klem-from-components-spec : {M : Type 1} → statement M
 klem-from-components-spec =
-    tie.close
-    (tie.spec
-    fit-two-requires
-    slice-aggregate-copy
-    copy-requires
-    from-components-requires
-    path-requires
-    tell-path-requires
-    same-length
-    same-length-2
-    returns
-    returns-2)
+    tie.close (tie.spec (λ c κs. search needs) (λ c. search needs) copy-requires (λ c κs. search needs) (λ c κs. search needs) tell-path-requires
+    (λ c. search needs) (λ c. search needs) returns returns-2)

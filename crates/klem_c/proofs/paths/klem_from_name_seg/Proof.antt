@@ -12,9 +12,6 @@ use Rattle.klem_c.proofs.Results.{four, path-numbered, count-small, nam
 use Rattle.klem_c.proofs.paths.klem_from_name_seg.Statement.{statement}
 use Rattle.klem_c.proofs.paths.klem_from_name_seg.Tie as tie
 
-fit-two-requires : tie.Need-fit-two-requires
-fit-two-requires c κs = search needs
-
 shared-slice-read-t12 : tie.Need-shared-slice-read-t12
 shared-slice-read-t12 c = omega (arith, c .before .before .fit-two .ensures .1 (c .before .if1 .taken) .2)
 
@@ -30,12 +27,6 @@ shared-slice-read-t18 : tie.Need-shared-slice-read-t18
 shared-slice-read-t18 c =
     omega (arith, c .before .before .before .before .before .fit-two .ensures .1 (c .before .before .before .before .if1 .taken) .2)
 
-from-name-seg-requires : tie.Need-from-name-seg-requires
-from-name-seg-requires c κs = search needs
-
-path-requires : tie.Need-path-requires
-path-requires c κs = search needs
-
 tell-path-requires : tie.Need-tell-path-requires
 tell-path-requires c κs =
     let l : length (c .before .before .before .before .from-name-seg .result .name .bytes) ≡ 128 = search needs in
@@ -47,12 +38,6 @@ tell-path-requires c κs =
       at-fit-two .fit-two .ensures .1 (at-if1 .if1 .taken) .0,
       count-small _ (alone (segmentPath (at-args .args .seg .now))) (rw four at (at-from-name-seg .from-name-seg .ensures)) l,
     )
-
-same-length : tie.Need-same-length
-same-length c = search needs
-
-same-length-2 : tie.Need-same-length-2
-same-length-2 c = search needs
 
 returns : tie.Need-returns
 unfolding klemFromNameSeg
@@ -73,17 +58,5 @@ returns-2 c = rw (sym (c .before .fit-two .ensures .0) ∙ c .if1 .left)
 
 pub klem-from-name-seg-spec : {M : Type 1} → statement M
 klem-from-name-seg-spec =
-    tie.close
-    (tie.spec
-    fit-two-requires
-    shared-slice-read-t12
-    shared-slice-read-t14
-    shared-slice-read-t16
-    shared-slice-read-t18
-    from-name-seg-requires
-    path-requires
-    tell-path-requires
-    same-length
-    same-length-2
-    returns
-    returns-2)
+    tie.close (tie.spec (λ c κs. search needs) shared-slice-read-t12 shared-slice-read-t14 shared-slice-read-t16 shared-slice-read-t18 (λ c κs. search needs)
+    (λ c κs. search needs) tell-path-requires (λ c. search needs) (λ c. search needs) returns returns-2)

@@ -13,15 +13,6 @@ use Rattle.klem_c.proofs.Results.{path-numbered, count-small, named}
 use Rattle.klem_c.proofs.paths.klem_from_str.Statement.{statement}
 use Rattle.klem_c.proofs.paths.klem_from_str.Tie as tie
 
-fit-one-requires : tie.Need-fit-one-requires
-fit-one-requires c κs = search needs
-
-from-str-requires : tie.Need-from-str-requires
-from-str-requires c κs = search needs
-
-path-requires : tie.Need-path-requires
-path-requires c κs = search needs
-
 tell-path-requires : tie.Need-tell-path-requires
 tell-path-requires c κs =
     let l : length (c .before .before .before .before .from-str .result .name .bytes) ≡ 128 = search needs in
@@ -33,12 +24,6 @@ tell-path-requires c κs =
       at-fit-one .fit-one .ensures .1 (at-if1 .if1 .taken) .0,
       count-small _ (alone (fromText componentLimit (at-args .args .text .now))) (at-from-str .from-str .ensures) l,
     )
-
-same-length : tie.Need-same-length
-same-length c = search needs
-
-same-length-2 : tie.Need-same-length-2
-same-length-2 c = search needs
 
 returns : tie.Need-returns
 unfolding klemFromStr
@@ -59,13 +44,5 @@ returns-2 c = rw (sym (c .before .fit-one .ensures .0) ∙ c .if1 .left)
 
 pub klem-from-str-spec : {M : Type 1} → statement M
 klem-from-str-spec =
-    tie.close
-    (tie.spec
-    fit-one-requires
-    from-str-requires
-    path-requires
-    tell-path-requires
-    same-length
-    same-length-2
-    returns
+    tie.close (tie.spec (λ c κs. search needs) (λ c κs. search needs) (λ c κs. search needs) tell-path-requires (λ c. search needs) (λ c. search needs) returns
     returns-2)

@@ -14,17 +14,8 @@ use Rattle.klem_c.proofs.Results.{path-numbered, count-small, named}
 use Rattle.klem_c.proofs.paths.klem_parent.Statement.{statement}
 use Rattle.klem_c.proofs.paths.klem_parent.Tie as tie
 
-fit-two-requires : tie.Need-fit-two-requires
-fit-two-requires c κs = search needs
-
 path-in-requires : tie.Need-path-in-requires
 path-in-requires c κs = c .before .fit-two .ensures .1 (c .if1 .taken) .2
-
-parent-requires : tie.Need-parent-requires
-parent-requires c κs = search needs
-
-path-requires : tie.Need-path-requires
-path-requires c κs = search needs
 
 tell-path-requires : tie.Need-tell-path-requires
 tell-path-requires c κs =
@@ -38,12 +29,6 @@ tell-path-requires c κs =
       at-fit-two .fit-two .ensures .1 (at-if1 .if1 .taken) .0,
       count-small _ (alone (andThen (pathIn componentLimit (pathAt (at-args .args .path .now))) (parentOf componentLimit))) (rw (at-path-in .path-in .ensures) at (at-parent .parent .ensures)) l,
     )
-
-same-length : tie.Need-same-length
-same-length c = search needs
-
-same-length-2 : tie.Need-same-length-2
-same-length-2 c = search needs
 
 returns : tie.Need-returns
 unfolding klemParent
@@ -65,14 +50,5 @@ returns-2 c = rw (sym (c .before .fit-two .ensures .0) ∙ c .if1 .left)
 
 pub klem-parent-spec : {M : Type 1} → statement M
 klem-parent-spec =
-    tie.close
-    (tie.spec
-    fit-two-requires
-    path-in-requires
-    parent-requires
-    path-requires
-    tell-path-requires
-    same-length
-    same-length-2
-    returns
-    returns-2)
+    tie.close (tie.spec (λ c κs. search needs) path-in-requires (λ c κs. search needs) (λ c κs. search needs) tell-path-requires (λ c. search needs)
+    (λ c. search needs) returns returns-2)

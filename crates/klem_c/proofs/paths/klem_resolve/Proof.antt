@@ -14,20 +14,11 @@ use Rattle.klem_c.proofs.Results.{path-numbered, count-small, named}
 use Rattle.klem_c.proofs.paths.klem_resolve.Statement.{statement}
 use Rattle.klem_c.proofs.paths.klem_resolve.Tie as tie
 
-fit-three-requires : tie.Need-fit-three-requires
-fit-three-requires c κs = search needs
-
 path-in-requires : tie.Need-path-in-requires
 path-in-requires c κs = c .before .fit-three .ensures .1 (c .if1 .taken) .2
 
 path-in-requires-2 : tie.Need-path-in-requires-2
 path-in-requires-2 c κs = c .before .before .fit-three .ensures .1 (c .before .if1 .taken) .3
-
-resolve-requires : tie.Need-resolve-requires
-resolve-requires c κs = search needs
-
-path-requires : tie.Need-path-requires
-path-requires c κs = search needs
 
 tell-path-requires : tie.Need-tell-path-requires
 tell-path-requires c κs =
@@ -42,12 +33,6 @@ tell-path-requires c κs =
       at-fit-three .fit-three .ensures .1 (at-if1 .if1 .taken) .0,
       count-small _ (alone (andThen (pathIn componentLimit (pathAt (at-args .args .path .now))) (λ cs. andThen (pathIn componentLimit (pathAt (at-args .args .scope .now))) (λ ss. resolved componentLimit cs ss)))) (rw (at-path-in .path-in .ensures, at-path-in2 .path-in2 .ensures) at (at-resolve .resolve .ensures)) l,
     )
-
-same-length : tie.Need-same-length
-same-length c = search needs
-
-same-length-2 : tie.Need-same-length-2
-same-length-2 c = search needs
 
 returns : tie.Need-returns
 unfolding klemResolve
@@ -71,15 +56,5 @@ returns-2 c = rw (sym (c .before .fit-three .ensures .0) ∙ c .if1 .left)
 
 pub klem-resolve-spec : {M : Type 1} → statement M
 klem-resolve-spec =
-    tie.close
-    (tie.spec
-    fit-three-requires
-    path-in-requires
-    path-in-requires-2
-    resolve-requires
-    path-requires
-    tell-path-requires
-    same-length
-    same-length-2
-    returns
-    returns-2)
+    tie.close (tie.spec (λ c κs. search needs) path-in-requires path-in-requires-2 (λ c κs. search needs) (λ c κs. search needs) tell-path-requires
+    (λ c. search needs) (λ c. search needs) returns returns-2)

@@ -14,15 +14,6 @@ use Rattle.klem_c.proofs.Results.{root-told, count-small, named}
 use Rattle.klem_c.proofs.paths.klem_root.Statement.{statement}
 use Rattle.klem_c.proofs.paths.klem_root.Tie as tie
 
-fit-one-requires : tie.Need-fit-one-requires
-fit-one-requires c κs = search needs
-
-root-requires : tie.Need-root-requires
-root-requires c κs = search needs
-
-given-requires : tie.Need-given-requires
-given-requires c κs = search needs
-
 tell-path-requires : tie.Need-tell-path-requires
 tell-path-requires c κs =
     let l : length (c .before .root .result .bytes) ≡ 128 = search needs in
@@ -33,12 +24,6 @@ tell-path-requires c κs =
       at-fit-one .fit-one .ensures .1 (at-if1 .if1 .taken) .0,
       count-small _ (alone (gives (root ∷ []))) (root-told (at-root .root .ensures)) l,
     )
-
-same-length : tie.Need-same-length
-same-length c = search needs
-
-same-length-2 : tie.Need-same-length-2
-same-length-2 c = search needs
 
 returns : tie.Need-returns
 unfolding klemRoot
@@ -57,13 +42,5 @@ returns-2 c = rw (sym (c .before .fit-one .ensures .0) ∙ c .if1 .left)
 
 pub klem-root-spec : {M : Type 1} → statement M
 klem-root-spec =
-    tie.close
-    (tie.spec
-    fit-one-requires
-    root-requires
-    given-requires
-    tell-path-requires
-    same-length
-    same-length-2
-    returns
+    tie.close (tie.spec (λ c κs. search needs) (λ c κs. search needs) (λ c κs. search needs) tell-path-requires (λ c. search needs) (λ c. search needs) returns
     returns-2)

@@ -3,21 +3,6 @@ use borrow.Author.Needs.{needs}
 use Rattle.klem_c.proofs.reply.found.Statement.{statement}
 use Rattle.klem_c.proofs.reply.found.Tie as tie
 
-enum-known-a : tie.Need-enum-known-a
-enum-known-a c = search needs
-
-cast-given : tie.Need-cast-given
-cast-given c = search needs
-
-given-requires : tie.Need-given-requires
-given-requires c κs = search needs
-
-enum-known-a-2 : tie.Need-enum-known-a-2
-enum-known-a-2 c = search needs
-
-refusal-requires : tie.Need-refusal-requires
-refusal-requires c κs = search needs
-
 returns : tie.Need-returns
 returns c = rw (c .before .before .before .a .given .1, c .given .ensures)
 
@@ -26,12 +11,4 @@ returns-2 c = rw (c .before .before .a2 .given .1) (c .refusal .ensures)
 
 pub found-spec : {M : Type 1} → statement M
 found-spec =
-    tie.close
-    (tie.spec
-    enum-known-a
-    cast-given
-    given-requires
-    enum-known-a-2
-    refusal-requires
-    returns
-    returns-2)
+    tie.close (tie.spec (λ c. search needs) (λ c. search needs) (λ c κs. search needs) (λ c. search needs) (λ c κs. search needs) returns returns-2)

@@ -7,14 +7,8 @@ use Rattle.klem_c.specs.Result.{resultOf}
 use Rattle.klem_c.proofs.reply.refusal.Statement.{statement}
 use Rattle.klem_c.proofs.reply.refusal.Tie as tie
 
-numbered-requires : tie.Need-numbered-requires
-numbered-requires c κs = search needs
-
-numbered-requires-2 : tie.Need-numbered-requires-2
-numbered-requires-2 c κs = search needs
-
 returns : tie.Need-returns
 returns c = c .numbered2 .ensures ∙ ap (λ (n : Refusal). resultOf (refuses (n .0) (n .1))) (c .before .numbered .ensures)
 
 pub refusal-spec : {M : Type 1} → statement M
-refusal-spec = tie.close (tie.spec numbered-requires numbered-requires-2 returns)
+refusal-spec = tie.close (tie.spec (λ c κs. search needs) (λ c κs. search needs) returns)

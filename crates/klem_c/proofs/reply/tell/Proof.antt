@@ -7,18 +7,6 @@ use Rattle.klem_c.proofs.Results.{eight}
 use Rattle.klem_c.proofs.reply.tell.Statement.{statement}
 use Rattle.klem_c.proofs.reply.tell.Tie as tie
 
-slice-write-result : tie.Need-slice-write-result
-slice-write-result c = search needs
-
-slice-write-result-2 : tie.Need-slice-write-result-2
-slice-write-result-2 c = search needs
-
-slice-write-result-3 : tie.Need-slice-write-result-3
-slice-write-result-3 c = search needs
-
-slice-write-result-4 : tie.Need-slice-write-result-4
-slice-write-result-4 c = search needs
-
 slice-write-result-5 : tie.Need-slice-write-result-5
 slice-write-result-5 c = simp length-set (omega arith)
 
@@ -31,23 +19,10 @@ slice-write-result-7 c = simp length-set (omega arith)
 slice-write-result-8 : tie.Need-slice-write-result-8
 slice-write-result-8 c = simp length-set (omega arith)
 
-same-length : tie.Need-same-length
-same-length c = search needs
-
 returns : tie.Need-returns
 returns c = (refl, eight (c .args .result .now) _ _ _ _ _ _ _ _ (c .pre))
 
 pub tell-spec : {M : Type 1} → statement M
 tell-spec =
-    tie.close
-    (tie.spec
-    slice-write-result
-    slice-write-result-2
-    slice-write-result-3
-    slice-write-result-4
-    slice-write-result-5
-    slice-write-result-6
-    slice-write-result-7
-    slice-write-result-8
-    same-length
-    returns)
+    tie.close (tie.spec (λ c. search needs) (λ c. search needs) (λ c. search needs) (λ c. search needs) slice-write-result-5 slice-write-result-6
+    slice-write-result-7 slice-write-result-8 (λ c. search needs) returns)

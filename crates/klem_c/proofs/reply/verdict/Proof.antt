@@ -3,18 +3,6 @@ use borrow.Author.Needs.{needs}
 use Rattle.klem_c.proofs.reply.verdict.Statement.{statement}
 use Rattle.klem_c.proofs.reply.verdict.Tie as tie
 
-enum-told : tie.Need-enum-told
-enum-told c = search needs
-
-given-requires : tie.Need-given-requires
-given-requires c κs = search needs
-
-enum-known-a : tie.Need-enum-known-a
-enum-known-a c = search needs
-
-refusal-requires : tie.Need-refusal-requires
-refusal-requires c κs = search needs
-
 returns : tie.Need-returns
 returns c = rw (c .before .enum-told .given .1, c .given .ensures)
 
@@ -23,4 +11,4 @@ returns-2 c = rw (c .before .before .a .given .1) (c .refusal .ensures)
 
 pub verdict-spec : {M : Type 1} → statement M
 verdict-spec =
-    tie.close (tie.spec enum-told given-requires enum-known-a refusal-requires returns returns-2)
+    tie.close (tie.spec (λ c. search needs) (λ c κs. search needs) (λ c. search needs) (λ c κs. search needs) returns returns-2)

@@ -8,26 +8,11 @@ use Rattle.klem_c.proofs.Copies.{put-path}
 use Rattle.klem_c.proofs.slices.put_path.Statement.{statement}
 use Rattle.klem_c.proofs.slices.put_path.Tie as tie
 
-low-requires : tie.Need-low-requires
-low-requires c κs = search needs
-
-slice-write-out : tie.Need-slice-write-out
-slice-write-out c = search needs
-
-high-requires : tie.Need-high-requires
-high-requires c κs = search needs
-
-slice-write-out-2 : tie.Need-slice-write-out-2
-slice-write-out-2 c = search needs
-
 sub-copy : tie.Need-sub-copy
 sub-copy c = simp length-set (omega arith)
 
 part-copy-start : tie.Need-part-copy-start
 part-copy-start c = simp length-set (omega arith)
-
-part-copy-end : tie.Need-part-copy-end
-part-copy-end c = search needs
 
 copy-requires : tie.Need-copy-requires
 copy-requires c κs =
@@ -56,15 +41,5 @@ returns c =
 
 pub put-path-spec : {M : Type 1} → statement M
 put-path-spec =
-    tie.close
-    (tie.spec
-    low-requires
-    slice-write-out
-    high-requires
-    slice-write-out-2
-    sub-copy
-    part-copy-start
-    part-copy-end
-    copy-requires
-    same-length
-    returns)
+    tie.close (tie.spec (λ c κs. search needs) (λ c. search needs) (λ c κs. search needs) (λ c. search needs) sub-copy part-copy-start (λ c. search needs)
+    copy-requires same-length returns)

@@ -10,18 +10,9 @@ use Rattle.klem_c.proofs.Results.{tells, edited}
 use Rattle.klem_c.proofs.tables.klem_add_level.Statement.{statement}
 use Rattle.klem_c.proofs.tables.klem_add_level.Tie as tie
 
-fit-one-requires : tie.Need-fit-one-requires
-fit-one-requires c κs = search needs
-
-numbered-requires : tie.Need-numbered-requires
-numbered-requires c κs = search needs
-
 tell-requires : tie.Need-tell-requires
 tell-requires c κs =
     c .before .before .before .before .fit-one .ensures .1 (c .before .before .before .if1 .taken) .0
-
-same-length : tie.Need-same-length
-same-length c = search needs
 
 returns : tie.Need-returns
 unfolding klemAddLevel
@@ -37,26 +28,11 @@ returns c =
 path-in-requires : tie.Need-path-in-requires
 path-in-requires c κs = c .before .before .before .fit-one .ensures .1 (c .before .before .if1 .taken) .1
 
-level-type-requires : tie.Need-level-type-requires
-level-type-requires c κs = search needs
-
-add-level-requires : tie.Need-add-level-requires
-add-level-requires c κs = search needs
-
-edit-requires : tie.Need-edit-requires
-edit-requires c κs = search needs
-
 tell-requires-2 : tie.Need-tell-requires-2
 tell-requires-2 c κs =
     let at-if1 = c .before .before .before .before .before .before .before .before .before in
     let at-fit-one = at-if1 .before in
     at-fit-one .fit-one .ensures .1 (at-if1 .if1 .taken) .0
-
-same-length-2 : tie.Need-same-length-2
-same-length-2 c = search needs
-
-same-length-3 : tie.Need-same-length-3
-same-length-3 c = search needs
 
 returns-2 : tie.Need-returns-2
 unfolding klemAddLevel
@@ -78,19 +54,5 @@ returns-3 c = rw (sym (c .before .fit-one .ensures .0) ∙ c .if1 .left)
 
 pub klem-add-level-spec : {M : Type 1} → statement M
 klem-add-level-spec =
-    tie.close
-    (tie.spec
-    fit-one-requires
-    numbered-requires
-    tell-requires
-    same-length
-    returns
-    path-in-requires
-    level-type-requires
-    add-level-requires
-    edit-requires
-    tell-requires-2
-    same-length-2
-    same-length-3
-    returns-2
-    returns-3)
+    tie.close (tie.spec (λ c κs. search needs) (λ c κs. search needs) tell-requires (λ c. search needs) returns path-in-requires (λ c κs. search needs)
+    (λ c κs. search needs) (λ c κs. search needs) tell-requires-2 (λ c. search needs) (λ c. search needs) returns-2 returns-3)

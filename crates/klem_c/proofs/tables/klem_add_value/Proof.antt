@@ -9,29 +9,14 @@ use Rattle.klem_c.proofs.Results.{edited}
 use Rattle.klem_c.proofs.tables.klem_add_value.Statement.{statement}
 use Rattle.klem_c.proofs.tables.klem_add_value.Tie as tie
 
-fit-one-requires : tie.Need-fit-one-requires
-fit-one-requires c κs = search needs
-
 path-in-requires : tie.Need-path-in-requires
 path-in-requires c κs = c .before .before .fit-one .ensures .1 (c .before .if1 .taken) .1
-
-add-value-requires : tie.Need-add-value-requires
-add-value-requires c κs = search needs
-
-handle-requires : tie.Need-handle-requires
-handle-requires c κs = search needs
 
 tell-requires : tie.Need-tell-requires
 tell-requires c κs =
     let at-if1 = c .before .before .before .before .before .before .before in
     let at-fit-one = at-if1 .before in
     at-fit-one .fit-one .ensures .1 (at-if1 .if1 .taken) .0
-
-same-length : tie.Need-same-length
-same-length c = search needs
-
-same-length-2 : tie.Need-same-length-2
-same-length-2 c = search needs
 
 returns : tie.Need-returns
 unfolding klemAddValue
@@ -51,14 +36,5 @@ returns-2 c = rw (sym (c .before .fit-one .ensures .0) ∙ c .if1 .left)
 
 pub klem-add-value-spec : {M : Type 1} → statement M
 klem-add-value-spec =
-    tie.close
-    (tie.spec
-    fit-one-requires
-    path-in-requires
-    add-value-requires
-    handle-requires
-    tell-requires
-    same-length
-    same-length-2
-    returns
-    returns-2)
+    tie.close (tie.spec (λ c κs. search needs) path-in-requires (λ c κs. search needs) (λ c κs. search needs) tell-requires (λ c. search needs)
+    (λ c. search needs) returns returns-2)

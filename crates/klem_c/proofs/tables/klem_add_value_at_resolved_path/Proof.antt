@@ -9,32 +9,17 @@ use Rattle.klem_c.proofs.Results.{edited}
 use Rattle.klem_c.proofs.tables.klem_add_value_at_resolved_path.Statement.{statement}
 use Rattle.klem_c.proofs.tables.klem_add_value_at_resolved_path.Tie as tie
 
-fit-two-requires : tie.Need-fit-two-requires
-fit-two-requires c κs = search needs
-
 path-in-requires : tie.Need-path-in-requires
 path-in-requires c κs = c .before .before .fit-two .ensures .1 (c .before .if1 .taken) .1
 
 path-in-requires-2 : tie.Need-path-in-requires-2
 path-in-requires-2 c κs = c .before .before .before .fit-two .ensures .1 (c .before .before .if1 .taken) .2
 
-add-value-at-resolved-path-requires : tie.Need-add-value-at-resolved-path-requires
-add-value-at-resolved-path-requires c κs = search needs
-
-handle-requires : tie.Need-handle-requires
-handle-requires c κs = search needs
-
 tell-requires : tie.Need-tell-requires
 tell-requires c κs =
     let at-if1 = c .before .before .before .before .before .before .before .before in
     let at-fit-two = at-if1 .before in
     at-fit-two .fit-two .ensures .1 (at-if1 .if1 .taken) .0
-
-same-length : tie.Need-same-length
-same-length c = search needs
-
-same-length-2 : tie.Need-same-length-2
-same-length-2 c = search needs
 
 returns : tie.Need-returns
 unfolding klemAddValueAtResolvedPath
@@ -55,15 +40,5 @@ returns-2 c = rw (sym (c .before .fit-two .ensures .0) ∙ c .if1 .left)
 
 pub klem-add-value-at-resolved-path-spec : {M : Type 1} → statement M
 klem-add-value-at-resolved-path-spec =
-    tie.close
-    (tie.spec
-    fit-two-requires
-    path-in-requires
-    path-in-requires-2
-    add-value-at-resolved-path-requires
-    handle-requires
-    tell-requires
-    same-length
-    same-length-2
-    returns
-    returns-2)
+    tie.close (tie.spec (λ c κs. search needs) path-in-requires path-in-requires-2 (λ c κs. search needs) (λ c κs. search needs) tell-requires
+    (λ c. search needs) (λ c. search needs) returns returns-2)

@@ -10,21 +10,9 @@ use Rattle.klem_c.proofs.Results.{answered}
 use Rattle.klem_c.proofs.tables.klem_get.Statement.{statement}
 use Rattle.klem_c.proofs.tables.klem_get.Tie as tie
 
-fit-requires : tie.Need-fit-requires
-fit-requires c κs = search needs
-
-get-requires : tie.Need-get-requires
-get-requires c κs = search needs
-
-value-requires : tie.Need-value-requires
-value-requires c κs = search needs
-
 tell-requires : tie.Need-tell-requires
 tell-requires c κs =
     eqb-true _ _ (sym (c .before .before .before .before .fit .ensures) ∙ c .before .before .before .if1 .taken)
-
-same-length : tie.Need-same-length
-same-length c = search needs
 
 returns : tie.Need-returns
 unfolding klemGet
@@ -44,4 +32,4 @@ returns-2 c = rw (sym (c .before .fit .ensures) ∙ c .if1 .left)
 pub klem-get-spec : {M : Type 1} → statement M
 klem-get-spec =
     tie.close
-    (tie.spec fit-requires get-requires value-requires tell-requires same-length returns returns-2)
+    (tie.spec (λ c κs. search needs) (λ c κs. search needs) (λ c κs. search needs) tell-requires (λ c. search needs) returns returns-2)

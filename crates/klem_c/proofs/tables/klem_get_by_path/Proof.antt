@@ -9,24 +9,12 @@ use Rattle.klem_c.proofs.Results.{answered}
 use Rattle.klem_c.proofs.tables.klem_get_by_path.Statement.{statement}
 use Rattle.klem_c.proofs.tables.klem_get_by_path.Tie as tie
 
-fit-one-requires : tie.Need-fit-one-requires
-fit-one-requires c κs = search needs
-
 path-in-requires : tie.Need-path-in-requires
 path-in-requires c κs = c .before .before .fit-one .ensures .1 (c .before .if1 .taken) .1
-
-get-by-path-requires : tie.Need-get-by-path-requires
-get-by-path-requires c κs = search needs
-
-value-requires : tie.Need-value-requires
-value-requires c κs = search needs
 
 tell-requires : tie.Need-tell-requires
 tell-requires c κs =
     c .before .before .before .before .before .fit-one .ensures .1 (c .before .before .before .before .if1 .taken) .0
-
-same-length : tie.Need-same-length
-same-length c = search needs
 
 returns : tie.Need-returns
 unfolding klemGetByPath
@@ -46,13 +34,5 @@ returns-2 c = rw (sym (c .before .fit-one .ensures .0) ∙ c .if1 .left)
 
 pub klem-get-by-path-spec : {M : Type 1} → statement M
 klem-get-by-path-spec =
-    tie.close
-    (tie.spec
-    fit-one-requires
-    path-in-requires
-    get-by-path-requires
-    value-requires
-    tell-requires
-    same-length
-    returns
+    tie.close (tie.spec (λ c κs. search needs) path-in-requires (λ c κs. search needs) (λ c κs. search needs) tell-requires (λ c. search needs) returns
     returns-2)

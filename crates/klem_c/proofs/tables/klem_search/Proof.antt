@@ -12,20 +12,11 @@ use Rattle.klem_c.proofs.Results.{search-numbered, count-small, named}
 use Rattle.klem_c.proofs.tables.klem_search.Statement.{statement}
 use Rattle.klem_c.proofs.tables.klem_search.Tie as tie
 
-fit-three-requires : tie.Need-fit-three-requires
-fit-three-requires c κs = search needs
-
 path-in-requires : tie.Need-path-in-requires
 path-in-requires c κs = c .before .fit-three .ensures .1 (c .if1 .taken) .2
 
 path-in-requires-2 : tie.Need-path-in-requires-2
 path-in-requires-2 c κs = c .before .before .fit-three .ensures .1 (c .before .if1 .taken) .3
-
-search-requires : tie.Need-search-requires
-search-requires c κs = search needs
-
-found-requires : tie.Need-found-requires
-found-requires c κs = search needs
 
 tell-path-requires : tie.Need-tell-path-requires
 tell-path-requires c κs =
@@ -40,12 +31,6 @@ tell-path-requires c κs =
       at-fit-three .fit-three .ensures .1 (at-if1 .if1 .taken) .0,
       count-small _ (searchCall limits (at-args .args .table .now) (pathAt (at-args .args .path .now)) (pathAt (at-args .args .scope .now))) (rw (at-path-in .path-in .ensures, at-path-in2 .path-in2 .ensures) at (at-search .search .ensures)) l,
     )
-
-same-length : tie.Need-same-length
-same-length c = search needs
-
-same-length-2 : tie.Need-same-length-2
-same-length-2 c = search needs
 
 returns : tie.Need-returns
 unfolding klemSearch
@@ -69,15 +54,5 @@ returns-2 c = rw (sym (c .before .fit-three .ensures .0) ∙ c .if1 .left)
 
 pub klem-search-spec : {M : Type 1} → statement M
 klem-search-spec =
-    tie.close
-    (tie.spec
-    fit-three-requires
-    path-in-requires
-    path-in-requires-2
-    search-requires
-    found-requires
-    tell-path-requires
-    same-length
-    same-length-2
-    returns
-    returns-2)
+    tie.close (tie.spec (λ c κs. search needs) path-in-requires path-in-requires-2 (λ c κs. search needs) (λ c κs. search needs) tell-path-requires
+    (λ c. search needs) (λ c. search needs) returns returns-2)

@@ -10,26 +10,11 @@ use Rattle.klem_c.proofs.Results.{edited}
 use Rattle.klem_c.proofs.tables.klem_table_new.Statement.{statement}
 use Rattle.klem_c.proofs.tables.klem_table_new.Tie as tie
 
-fit-requires : tie.Need-fit-requires
-fit-requires c κs = search needs
-
-new-requires : tie.Need-new-requires
-new-requires c κs = search needs
-
-edit-requires : tie.Need-edit-requires
-edit-requires c κs = search needs
-
 tell-requires : tie.Need-tell-requires
 tell-requires c κs =
     let at-if1 = c .before .before .before .before .before .before in
     let at-fit = at-if1 .before in
     eqb-true _ _ (sym (at-fit .fit .ensures) ∙ at-if1 .if1 .taken)
-
-same-length : tie.Need-same-length
-same-length c = search needs
-
-same-length-2 : tie.Need-same-length-2
-same-length-2 c = search needs
 
 returns : tie.Need-returns
 unfolding klemTableNew
@@ -47,13 +32,5 @@ returns-2 c = rw (sym (c .before .fit .ensures) ∙ c .if1 .left)
 
 pub klem-table-new-spec : {M : Type 1} → statement M
 klem-table-new-spec =
-    tie.close
-    (tie.spec
-    fit-requires
-    new-requires
-    edit-requires
-    tell-requires
-    same-length
-    same-length-2
-    returns
+    tie.close (tie.spec (λ c κs. search needs) (λ c κs. search needs) (λ c κs. search needs) tell-requires (λ c. search needs) (λ c. search needs) returns
     returns-2)

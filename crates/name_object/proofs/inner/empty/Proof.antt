@@ -1,8 +1,6 @@
 use Rattle.name_object.specs.Component.{spell}
-use mathlib.Core.Path.{_≡_, refl}
-use Rattle.name_object.specs.Memory.{nameOf, zeros, pushed, put4}
-use borrow.Author.Needs.{needs}
-use native.Mathlib.Omega.{arith}
+use mathlib.Core.Path.{refl}
+use Rattle.name_object.specs.Memory.{nameOf, zeros}
 use Rattle.name_object.proofs.inner.empty.Statement.{statement}
 use Rattle.name_object.proofs.inner.empty.Tie as tie
 

@@ -14,34 +14,10 @@ use native.Mathlib.Omega.{arith}
 use Rattle.namespace.proofs.inner.add_alias.Statement.{statement}
 use Rattle.namespace.proofs.inner.add_alias.Tie as tie
 
-look-up-requires : tie.Need-look-up-requires
-look-up-requires c κs = search needs
-
-enum-known-aim : tie.Need-enum-known-aim
-enum-known-aim c = search needs
-
-enum-known-aim-2 : tie.Need-enum-known-aim-2
-enum-known-aim-2 c = search needs
-
-find-spot-requires : tie.Need-find-spot-requires
-find-spot-requires c κs = search needs
-
-enum-known-found : tie.Need-enum-known-found
-enum-known-found c = search needs
-
-enum-told : tie.Need-enum-told
-enum-told c = search needs
-
-enum-known-found-2 : tie.Need-enum-known-found-2
-enum-known-found-2 c = search needs
-
 slice-read-if1 : tie.Need-slice-read-if1
 slice-read-if1 c =
     let ws = c .before .before .before .before .before .before .before .before .before .before .before .before .before .before .args .table .now in
     omega (arith, long limits (omega arith) ws (c .before .before .before .before .before .before .before .before .before .before .before .before .before .before .pre .0))
-
-same-length : tie.Need-same-length
-same-length c = search needs
 
 returns : tie.Need-returns
 returns c =
@@ -83,9 +59,6 @@ mul-bind-2 c =
     let c17 = c .before .before .before .before .before .before .before .before .before .before .before .before .before .before .before .before .before in
     omega (arith, c17 .pre .1 .low (length (c17 .args .path .now) - 1))
 
-cast-bind : tie.Need-cast-bind
-cast-bind c = search needs
-
 add-bind : tie.Need-add-bind
 add-bind c =
     let c18 = c .before .before .before .before .before .before .before .before .before .before .before .before .before .before .before .before .before .before in
@@ -106,9 +79,6 @@ bind-requires c κs =
       word-low limits (omega arith) ws (c18 .pre .0) (c18 .args .path .now) (c8 .find-spot .result) (c8 .find-spot .ensures) (c6 .found2 .given .0 .0) (c6 .found2 .given .0 .1 .0) h1 (omega arith),
     )
 
-same-length-2 : tie.Need-same-length-2
-same-length-2 c = search needs
-
 returns-2 : tie.Need-returns-2
 returns-2 c =
     let c3 = c .before .before .before in
@@ -116,9 +86,6 @@ returns-2 c =
     let ws = c8 .args .table .now in
     aliased-aim limits (omega arith) ws (c8 .pre .0) (c8 .args .path .now) (spotIn (take 128 ws) (take 512 (drop 128 ws)) (c8 .args .path .now)) refl (c8 .args .target .now) (c .before .aim .given .0 .0)
     (sym (ap handleSaid (c .before .aim .given .1)) ∙ c3 .look-up .ensures)
-
-same-length-3 : tie.Need-same-length-3
-same-length-3 c = search needs
 
 returns-3 : tie.Need-returns-3
 returns-3 c =
@@ -130,9 +97,6 @@ returns-3 c =
     aliased-refused limits (omega arith) ws (c13 .pre .0) (c13 .args .path .now) (c3 .find-spot .result) (c3 .find-spot .ensures) (c13 .args .target .now) (c6 .aim2 .given .0 .0 .0)
     (sym (ap handleSaid (c6 .aim2 .given .1)) ∙ c8 .look-up .ensures) (c .before .found .given .0 .0) (c .before .found .given .1)
 
-same-length-4 : tie.Need-same-length-4
-same-length-4 c = search needs
-
 returns-4 : tie.Need-returns-4
 returns-4 c =
     let c5 = c .before .before .before .before .before in
@@ -141,9 +105,6 @@ returns-4 c =
     let ws = c12 .args .table .now in
     aliased-bound limits (omega arith) ws (c12 .pre .0) (c12 .args .path .now) (c .before .before .find-spot .result) (c .before .before .find-spot .ensures) (c12 .args .target .now) (c5 .aim2 .given .0 .0 .0)
     (sym (ap handleSaid (c5 .aim2 .given .1)) ∙ c7 .look-up .ensures) _ (c .enum-told .given .1)
-
-same-length-5 : tie.Need-same-length-5
-same-length-5 c = search needs
 
 returns-5 : tie.Need-returns-5
 returns-5 c =
@@ -159,30 +120,6 @@ returns-5 c =
 
 pub add-alias-spec : {M : Type 1} → statement M
 add-alias-spec =
-    tie.close
-    (tie.spec
-    look-up-requires
-    enum-known-aim
-    enum-known-aim-2
-    find-spot-requires
-    enum-known-found
-    enum-told
-    enum-known-found-2
-    slice-read-if1
-    same-length
-    returns
-    sub-bind
-    mul-bind
-    shared-slice-read-bind
-    mul-bind-2
-    cast-bind
-    add-bind
-    bind-requires
-    same-length-2
-    returns-2
-    same-length-3
-    returns-3
-    same-length-4
-    returns-4
-    same-length-5
-    returns-5)
+    tie.close (tie.spec (λ c κs. search needs) (λ c. search needs) (λ c. search needs) (λ c κs. search needs) (λ c. search needs) (λ c. search needs)
+    (λ c. search needs) slice-read-if1 (λ c. search needs) returns sub-bind mul-bind shared-slice-read-bind mul-bind-2 (λ c. search needs) add-bind
+    bind-requires (λ c. search needs) returns-2 (λ c. search needs) returns-3 (λ c. search needs) returns-4 (λ c. search needs) returns-5)

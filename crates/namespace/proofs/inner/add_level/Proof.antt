@@ -30,37 +30,10 @@ seek-requires c κs =
     let ws = c .before .before .before .before .args .table .now in
     omega (arith, length-ls limits (omega arith) ws (c .before .before .before .before .pre .0))
 
-enum-told : tie.Need-enum-told
-enum-told c = search needs
-
-enum-known-found : tie.Need-enum-known-found
-enum-known-found c = search needs
-
-enum-known-found-2 : tie.Need-enum-known-found-2
-enum-known-found-2 c = search needs
-
 slice-read-if2 : tie.Need-slice-read-if2
 slice-read-if2 c =
     let ws = c .before .before .before .before .before .before .before .before .before .args .table .now in
     omega (arith, long limits (omega arith) ws (c .before .before .before .before .before .before .before .before .before .pre .0))
-
-mul-w : tie.Need-mul-w
-mul-w c = search needs
-
-mul-w-2 : tie.Need-mul-w-2
-mul-w-2 c = search needs
-
-add-w : tie.Need-add-w
-add-w c = search needs
-
-sub-w : tie.Need-sub-w
-sub-w c = search needs
-
-mul-w-3 : tie.Need-mul-w-3
-mul-w-3 c = search needs
-
-shared-slice-read-w : tie.Need-shared-slice-read-w
-shared-slice-read-w c = search needs
 
 add-w-2 : tie.Need-add-w-2
 add-w-2 c =
@@ -85,17 +58,11 @@ make-room-requires c κs =
     let ws = c12 .args .table .now in
     added-place limits (omega arith) ws (c12 .pre .0) (c12 .args .path .now) (c12 .args .typ) (omega arith) (c7 .seek .result) (c7 .seek .ensures) (omega arith) (c5 .found2 .given .0 .0) (c5 .found2 .given .1)
 
-same-length : tie.Need-same-length
-same-length c = search needs
-
 returns-2 : tie.Need-returns-2
 returns-2 c =
     let c7 = c .before .before .before .before .before .before .before in
     let ws = c7 .args .table .now in
     added-here limits (omega arith) ws (c7 .pre .0) (c7 .args .path .now) (c7 .args .typ) (omega arith) (c .before .before .seek .result) (c .before .before .seek .ensures) _ _ (c .enum-told .given .1)
-
-same-length-2 : tie.Need-same-length-2
-same-length-2 c = search needs
 
 returns-3 : tie.Need-returns-3
 returns-3 c =
@@ -103,9 +70,6 @@ returns-3 c =
     let c8 = c3 .before .before .before .before .before in
     let ws = c8 .args .table .now in
     added-missing limits (omega arith) ws (c8 .pre .0) (c8 .args .path .now) (c8 .args .typ) (omega arith) (c3 .seek .result) (c3 .seek .ensures) (c .before .found .given .0 .0) (c .before .found .given .1)
-
-same-length-3 : tie.Need-same-length-3
-same-length-3 c = search needs
 
 returns-4 : tie.Need-returns-4
 returns-4 c =
@@ -117,9 +81,6 @@ returns-4 c =
     added-new limits (omega arith) ws (c15 .pre .0) (c15 .args .path .now) (c15 .args .typ) (omega arith) (c10 .seek .result) (c10 .seek .ensures) (omega arith) (c8 .found2 .given .0 .0) (c8 .found2 .given .1) (c5 .if2 .taken) _
     (c .before .before .make-room .ensures)
 
-same-length-4 : tie.Need-same-length-4
-same-length-4 c = search needs
-
 returns-5 : tie.Need-returns-5
 returns-5 c =
     let c3 = c .before .before .before in
@@ -130,31 +91,7 @@ returns-5 c =
 
 pub add-level-spec : {M : Type 1} → statement M
 add-level-spec =
-    tie.close
-    (tie.spec
-    returns
-    slice-reshare-prefix-seek
-    slice-aggregate-seek
-    seek-requires
-    enum-told
-    enum-known-found
-    enum-known-found-2
-    slice-read-if2
-    mul-w
-    mul-w-2
-    add-w
-    sub-w
-    mul-w-3
-    shared-slice-read-w
-    add-w-2
-    slice-relend-prefix-make-room
-    slice-aggregate-make-room
-    make-room-requires
-    same-length
-    returns-2
-    same-length-2
-    returns-3
-    same-length-3
-    returns-4
-    same-length-4
-    returns-5)
+    tie.close (tie.spec returns slice-reshare-prefix-seek slice-aggregate-seek seek-requires (λ c. search needs) (λ c. search needs) (λ c. search needs)
+    slice-read-if2 (λ c. search needs) (λ c. search needs) (λ c. search needs) (λ c. search needs) (λ c. search needs) (λ c. search needs) add-w-2
+    slice-relend-prefix-make-room slice-aggregate-make-room make-room-requires (λ c. search needs) returns-2 (λ c. search needs) returns-3 (λ c. search needs)
+    returns-4 (λ c. search needs) returns-5)

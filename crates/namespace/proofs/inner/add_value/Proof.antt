@@ -12,25 +12,10 @@ use native.Mathlib.Omega.{arith}
 use Rattle.namespace.proofs.inner.add_value.Statement.{statement}
 use Rattle.namespace.proofs.inner.add_value.Tie as tie
 
-find-spot-requires : tie.Need-find-spot-requires
-find-spot-requires c κs = search needs
-
-enum-known-found : tie.Need-enum-known-found
-enum-known-found c = search needs
-
-enum-told : tie.Need-enum-told
-enum-told c = search needs
-
-enum-known-found-2 : tie.Need-enum-known-found-2
-enum-known-found-2 c = search needs
-
 slice-read-if1 : tie.Need-slice-read-if1
 slice-read-if1 c =
     let ws = c .before .before .before .before .before .before .before .before .args .table .now in
     omega (arith, long limits (omega arith) ws (c .before .before .before .before .before .before .before .before .pre .0))
-
-same-length : tie.Need-same-length
-same-length c = search needs
 
 returns : tie.Need-returns
 returns c =
@@ -44,9 +29,6 @@ slice-read-made : tie.Need-slice-read-made
 slice-read-made c =
     let ws = c .before .before .before .before .before .before .before .before .before .before .args .table .now in
     omega (arith, long limits (omega arith) ws (c .before .before .before .before .before .before .before .before .before .before .pre .0))
-
-same-length-2 : tie.Need-same-length-2
-same-length-2 c = search needs
 
 returns-2 : tie.Need-returns-2
 returns-2 c =
@@ -139,9 +121,6 @@ slice-write-table-2 c =
 cast-t30 : tie.Need-cast-t30
 cast-t30 c = omega (arith, c .before .before .before .before .before .if2 .left)
 
-same-length-3 : tie.Need-same-length-3
-same-length-3 c = search needs
-
 returns-3 : tie.Need-returns-3
 returns-3 c =
     let c3 = c .before .before .before in
@@ -149,17 +128,11 @@ returns-3 c =
     let ws = c7 .args .table .now in
     valued-refused limits (omega arith) ws (c7 .pre .0) (c7 .args .path .now) (c3 .find-spot .result) (c3 .find-spot .ensures) (c7 .args .value) (c .before .found .given .0 .0) (c .before .found .given .1)
 
-same-length-4 : tie.Need-same-length-4
-same-length-4 c = search needs
-
 returns-4 : tie.Need-returns-4
 returns-4 c =
     let c6 = c .before .before .before .before .before .before in
     let ws = c6 .args .table .now in
     valued-bound limits (omega arith) ws (c6 .pre .0) (c6 .args .path .now) (c .before .before .find-spot .result) (c .before .before .find-spot .ensures) (c6 .args .value) _ (c .enum-told .given .1)
-
-same-length-5 : tie.Need-same-length-5
-same-length-5 c = search needs
 
 returns-5 : tie.Need-returns-5
 returns-5 c =
@@ -174,33 +147,6 @@ returns-5 c =
 
 pub add-value-spec : {M : Type 1} → statement M
 add-value-spec =
-    tie.close
-    (tie.spec
-    find-spot-requires
-    enum-known-found
-    enum-told
-    enum-known-found-2
-    slice-read-if1
-    same-length
-    returns
-    slice-read-made
-    same-length-2
-    returns-2
-    sub-bind
-    mul-bind
-    shared-slice-read-bind
-    mul-bind-2
-    add-bind
-    bind-requires
-    add-table
-    mul-table
-    slice-write-table
-    add-table-2
-    slice-write-table-2
-    cast-t30
-    same-length-3
-    returns-3
-    same-length-4
-    returns-4
-    same-length-5
-    returns-5)
+    tie.close (tie.spec (λ c κs. search needs) (λ c. search needs) (λ c. search needs) (λ c. search needs) slice-read-if1 (λ c. search needs) returns
+    slice-read-made (λ c. search needs) returns-2 sub-bind mul-bind shared-slice-read-bind mul-bind-2 add-bind bind-requires add-table mul-table
+    slice-write-table add-table-2 slice-write-table-2 cast-t30 (λ c. search needs) returns-3 (λ c. search needs) returns-4 (λ c. search needs) returns-5)

@@ -4,15 +4,6 @@ use borrow.Author.Needs.{needs}
 use Rattle.namespace.proofs.inner.are_paths.Statement.{statement}
 use Rattle.namespace.proofs.inner.are_paths.Tie as tie
 
-is-path-requires : tie.Need-is-path-requires
-is-path-requires c κs = search needs
-
-is-path-requires-2 : tie.Need-is-path-requires-2
-is-path-requires-2 c κs = search needs
-
-is-path-requires-3 : tie.Need-is-path-requires-3
-is-path-requires-3 c κs = search needs
-
 returns : tie.Need-returns
 returns c =
     simp (sym (c .before .before .before .before .is-path .ensures) ∙ c .before .before .before .if1 .taken, sym (c .before .before .is-path2 .ensures) ∙ c .before .if2 .taken) (c .is-path3 .ensures)
@@ -27,4 +18,4 @@ returns-3 c = simp (sym (c .before .is-path .ensures) ∙ c .if1 .left)
 pub are-paths-spec : {M : Type 1} → statement M
 are-paths-spec =
     tie.close
-    (tie.spec is-path-requires is-path-requires-2 is-path-requires-3 returns returns-2 returns-3)
+    (tie.spec (λ c κs. search needs) (λ c κs. search needs) (λ c κs. search needs) returns returns-2 returns-3)

@@ -13,18 +13,6 @@ use Rattle.namespace.proofs.inner.full_name.Tie as tie
 within-requires : tie.Need-within-requires
 within-requires c κs = (c .pre .0, c .pre .2)
 
-element-copy-out-push : tie.Need-element-copy-out-push
-element-copy-out-push c = search needs
-
-element-copy-out-push-2 : tie.Need-element-copy-out-push-2
-element-copy-out-push-2 c = search needs
-
-element-copy-out-push-3 : tie.Need-element-copy-out-push-3
-element-copy-out-push-3 c = search needs
-
-element-copy-out-push-4 : tie.Need-element-copy-out-push-4
-element-copy-out-push-4 c = search needs
-
 push-requires : tie.Need-push-requires
 push-requires c κs =
     let c4 = c .before .before .before .before in
@@ -41,12 +29,4 @@ returns c =
 
 pub full-name-spec : {M : Type 1} → statement M
 full-name-spec =
-    tie.close
-    (tie.spec
-    within-requires
-    element-copy-out-push
-    element-copy-out-push-2
-    element-copy-out-push-3
-    element-copy-out-push-4
-    push-requires
-    returns)
+    tie.close (tie.spec within-requires (λ c. search needs) (λ c. search needs) (λ c. search needs) (λ c. search needs) push-requires returns)

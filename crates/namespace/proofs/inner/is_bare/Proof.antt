@@ -5,12 +5,6 @@ use borrow.Author.Needs.{needs}
 use Rattle.namespace.proofs.inner.is_bare.Statement.{statement}
 use Rattle.namespace.proofs.inner.is_bare.Tie as tie
 
-element-copy-out-is-lead-name-char : tie.Need-element-copy-out-is-lead-name-char
-element-copy-out-is-lead-name-char c = search needs
-
-is-lead-name-char-requires : tie.Need-is-lead-name-char-requires
-is-lead-name-char-requires c κs = search needs
-
 returns : tie.Need-returns
 returns c =
     c .is-lead-name-char .ensures ∙ bare-one (c .before .before .before .args .t1) (c .before .before .before .pre) (c .before .before .if1 .taken)
@@ -21,4 +15,4 @@ returns-2 c = sym (bare-many (c .before .args .t1) (c .if1 .left))
 pub is-bare-spec : {M : Type 1} → statement M
 is-bare-spec =
     tie.close
-    (tie.spec element-copy-out-is-lead-name-char is-lead-name-char-requires returns returns-2)
+    (tie.spec (λ c. search needs) (λ c κs. search needs) returns returns-2)

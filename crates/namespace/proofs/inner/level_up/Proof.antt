@@ -40,12 +40,6 @@ slice-aggregate-nearest-level-2 c =
     let len : length (c .before .before .before .keys-of .result) ≡ 32 = search needs in
     sym (length-take-le (c .before .before .before .before .before .args .scope .count) (c .before .before .before .keys-of .result) (omega arith))
 
-nearest-level-requires : tie.Need-nearest-level-requires
-nearest-level-requires c κs = search needs
-
-no-level-requires : tie.Need-no-level-requires
-no-level-requires c κs = search needs
-
 returns : tie.Need-returns
 returns c =
     let c5 = c .before .before .before .before .before in
@@ -94,17 +88,5 @@ returns-2 c =
 
 pub level-up-spec : {M : Type 1} → statement M
 level-up-spec =
-    tie.close
-    (tie.spec
-    keys-of-requires
-    bare-key-requires
-    slice-aggregate-nearest-level
-    array-share-prefix-keys
-    slice-aggregate-nearest-level-2
-    nearest-level-requires
-    no-level-requires
-    returns
-    full-name-requires
-    sub-t16
-    add-t17
-    returns-2)
+    tie.close (tie.spec keys-of-requires bare-key-requires slice-aggregate-nearest-level array-share-prefix-keys slice-aggregate-nearest-level-2
+    (λ c κs. search needs) (λ c κs. search needs) returns full-name-requires sub-t16 add-t17 returns-2)

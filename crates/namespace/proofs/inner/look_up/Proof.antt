@@ -6,24 +6,12 @@ use native.Mathlib.Omega.{arith}
 use Rattle.namespace.proofs.inner.look_up.Statement.{statement}
 use Rattle.namespace.proofs.inner.look_up.Tie as tie
 
-find-spot-requires : tie.Need-find-spot-requires
-find-spot-requires c κs = search needs
-
-enum-known-found : tie.Need-enum-known-found
-enum-known-found c = search needs
-
 cast-t7 : tie.Need-cast-t7
 cast-t7 c =
     let c3 = c .before .before .before in
     let c6 = c3 .before .before .before in
     let ws = c6 .args .table .now in
     omega (arith, looked-bound limits (omega arith) ws (c6 .pre .0) (c6 .args .path .now) (c3 .find-spot .result) (c3 .find-spot .ensures) (c .before .found .given .0 .0) (c .before .found .given .1) .1)
-
-enum-told : tie.Need-enum-told
-enum-told c = search needs
-
-enum-known-found-2 : tie.Need-enum-known-found-2
-enum-known-found-2 c = search needs
 
 returns : tie.Need-returns
 returns c =
@@ -46,13 +34,4 @@ returns-3 c =
 
 pub look-up-spec : {M : Type 1} → statement M
 look-up-spec =
-    tie.close
-    (tie.spec
-    find-spot-requires
-    enum-known-found
-    cast-t7
-    enum-told
-    enum-known-found-2
-    returns
-    returns-2
-    returns-3)
+    tie.close (tie.spec (λ c κs. search needs) (λ c. search needs) cast-t7 (λ c. search needs) (λ c. search needs) returns returns-2 returns-3)

@@ -5,11 +5,8 @@ use borrow.Author.Needs.{needs}
 use Rattle.namespace.proofs.inner.no_level.Statement.{statement}
 use Rattle.namespace.proofs.inner.no_level.Tie as tie
 
-empty-requires : tie.Need-empty-requires
-empty-requires c κs = search needs
-
 returns : tie.Need-returns
 returns c = same-told (c .empty .ensures) refl
 
 pub no-level-spec : {M : Type 1} → statement M
-no-level-spec = tie.close (tie.spec empty-requires returns)
+no-level-spec = tie.close (tie.spec (λ c κs. search needs) returns)

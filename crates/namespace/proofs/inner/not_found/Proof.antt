@@ -5,11 +5,8 @@ use borrow.Author.Needs.{needs}
 use Rattle.namespace.proofs.inner.not_found.Statement.{statement}
 use Rattle.namespace.proofs.inner.not_found.Tie as tie
 
-empty-requires : tie.Need-empty-requires
-empty-requires c κs = search needs
-
 returns : tie.Need-returns
 returns c = same-told (c .empty .ensures) refl
 
 pub not-found-spec : {M : Type 1} → statement M
-not-found-spec = tie.close (tie.spec empty-requires returns)
+not-found-spec = tie.close (tie.spec (λ c κs. search needs) returns)

@@ -6,19 +6,10 @@ use native.Mathlib.Omega.{arith}
 use Rattle.namespace.proofs.inner.read.Statement.{statement}
 use Rattle.namespace.proofs.inner.read.Tie as tie
 
-cast-h : tie.Need-cast-h
-cast-h c = search needs
-
 shared-slice-read-made : tie.Need-shared-slice-read-made
 shared-slice-read-made c =
     let ws = c .before .before .args .table .now in
     omega (arith, long limits (omega arith) ws (c .before .before .pre))
-
-add-t9 : tie.Need-add-t9
-add-t9 c = search needs
-
-mul-t10 : tie.Need-mul-t10
-mul-t10 c = search needs
 
 shared-slice-read-t12 : tie.Need-shared-slice-read-t12
 shared-slice-read-t12 c =
@@ -38,4 +29,4 @@ returns-2 c =
 pub read-spec : {M : Type 1} → statement M
 read-spec =
     tie.close
-    (tie.spec cast-h shared-slice-read-made add-t9 mul-t10 shared-slice-read-t12 returns returns-2)
+    (tie.spec (λ c. search needs) shared-slice-read-made (λ c. search needs) (λ c. search needs) shared-slice-read-t12 returns returns-2)

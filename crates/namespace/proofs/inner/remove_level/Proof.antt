@@ -28,9 +28,6 @@ seek-requires c κs =
     let ws = c .before .before .before .before .args .table .now in
     omega (arith, length-ls limits (omega arith) ws (c .before .before .before .before .pre .0))
 
-enum-known-found : tie.Need-enum-known-found
-enum-known-found c = search needs
-
 slice-reshare-prefix-subtree : tie.Need-slice-reshare-prefix-subtree
 slice-reshare-prefix-subtree c =
     let ws = c .before .before .before .before .before .before .before .before .args .table .now in
@@ -71,12 +68,6 @@ close-gap-requires c κs =
     let ws = c11 .args .table .now in
     run-fits limits (omega arith) ws (c11 .pre .0) (c11 .args .path .now) (omega arith) (c6 .seek .result) (c6 .seek .ensures) (c4 .found .given .0 .0) (c4 .found .given .0 .1 .0) (c4 .found .given .1) (c .before .subtree .result) (c .before .subtree .ensures)
 
-sub-close-gap : tie.Need-sub-close-gap
-sub-close-gap c = search needs
-
-part-close-gap-start : tie.Need-part-close-gap-start
-part-close-gap-start c = search needs
-
 part-close-gap-end : tie.Need-part-close-gap-end
 part-close-gap-end c =
     let c4 = c .before .before .before .before in
@@ -98,18 +89,6 @@ close-gap-requires-2 c κs =
     moved-range limits (omega arith) ws (c15 .pre .0) (c15 .args .path .now) (omega arith) (c10 .seek .result) (c10 .seek .ensures) (c8 .found .given .0 .0) (c8 .found .given .0 .1 .0) (c8 .found .given .1) (c5 .subtree .result)
     (c5 .subtree .ensures) (c3 .close-gap .last .0) (c3 .close-gap .ensures)
 
-enum-told : tie.Need-enum-told
-enum-told c = search needs
-
-sub-t25 : tie.Need-sub-t25
-sub-t25 c = search needs
-
-enum-known-found-2 : tie.Need-enum-known-found-2
-enum-known-found-2 c = search needs
-
-same-length : tie.Need-same-length
-same-length c = search needs
-
 returns-2 : tie.Need-returns-2
 returns-2 c =
     let c6 = c .before .before .before .before .before .before in
@@ -121,16 +100,10 @@ returns-2 c =
     moved limits (omega arith) ws (c18 .pre .0) (c18 .args .path .now) (omega arith) (c13 .seek .result) (c13 .seek .ensures) (c11 .found .given .0 .0) (c11 .found .given .0 .1 .0) (c11 .found .given .1) (c8 .subtree .result)
     (c8 .subtree .ensures) (c6 .close-gap .last .0) (c6 .close-gap .ensures) _ (c .before .before .close-gap2 .ensures)
 
-same-length-2 : tie.Need-same-length-2
-same-length-2 c = search needs
-
 returns-3 : tie.Need-returns-3
 returns-3 c =
     let ws = c .before .before .before .before .before .before .before .args .table .now in
     removed-before limits (omega arith) ws (c .before .before .before .before .before .before .before .pre .0) (c .before .before .before .before .before .before .before .args .path .now) (omega arith) (c .before .before .seek .result) (c .before .before .seek .ensures) _ (c .enum-told .given .1)
-
-same-length-3 : tie.Need-same-length-3
-same-length-3 c = search needs
 
 returns-4 : tie.Need-returns-4
 returns-4 c =
@@ -141,29 +114,7 @@ returns-4 c =
 
 pub remove-level-spec : {M : Type 1} → statement M
 remove-level-spec =
-    tie.close
-    (tie.spec
-    returns
-    slice-reshare-prefix-seek
-    slice-aggregate-seek
-    seek-requires
-    enum-known-found
-    slice-reshare-prefix-subtree
-    slice-aggregate-subtree
-    subtree-requires
-    slice-relend-prefix-close-gap
-    slice-aggregate-close-gap
-    close-gap-requires
-    sub-close-gap
-    part-close-gap-start
-    part-close-gap-end
-    close-gap-requires-2
-    enum-told
-    sub-t25
-    enum-known-found-2
-    same-length
-    returns-2
-    same-length-2
-    returns-3
-    same-length-3
-    returns-4)
+    tie.close (tie.spec returns slice-reshare-prefix-seek slice-aggregate-seek seek-requires (λ c. search needs) slice-reshare-prefix-subtree
+    slice-aggregate-subtree subtree-requires slice-relend-prefix-close-gap slice-aggregate-close-gap close-gap-requires (λ c. search needs) (λ c. search needs)
+    part-close-gap-end close-gap-requires-2 (λ c. search needs) (λ c. search needs) (λ c. search needs) (λ c. search needs) returns-2 (λ c. search needs)
+    returns-3 (λ c. search needs) returns-4)

@@ -18,24 +18,6 @@ use native.Mathlib.Omega.{arith}
 use Rattle.namespace.proofs.inner.resolve_alias.Statement.{statement}
 use Rattle.namespace.proofs.inner.resolve_alias.Tie as tie
 
-resolved-requires : tie.Need-resolved-requires
-resolved-requires c κs = search needs
-
-enum-known-said : tie.Need-enum-known-said
-enum-known-said c = search needs
-
-enum-told : tie.Need-enum-told
-enum-told c = search needs
-
-resolved-requires-2 : tie.Need-resolved-requires-2
-resolved-requires-2 c κs = search needs
-
-enum-known-told : tie.Need-enum-known-told
-enum-known-told c = search needs
-
-enum-told-2 : tie.Need-enum-told-2
-enum-told-2 c = search needs
-
 keys-of-requires : tie.Need-keys-of-requires
 keys-of-requires c κs =
     let c5 = c .before .before .before .before .before in
@@ -126,9 +108,6 @@ returns-2 c =
     ((against-done (c8 .args .path) (c8 .args .scope) (c8 .pre .1) (c8 .pre .2) (c6 .resolved .result) (c6 .resolved .ensures) (c4 .enum-told .given .1)) .1)
     (against-refused (c8 .args .target) (c8 .args .scope) (c8 .pre .3) (c8 .pre .2) (c3 .resolved2 .result) (c3 .resolved2 .ensures) (c .before .told .given .0 .0) (c .before .told .given .1))))
 
-same-length : tie.Need-same-length
-same-length c = search needs
-
 returns-3 : tie.Need-returns-3
 returns-3 c =
     let c6 = c .before .before .before .before .before .before in
@@ -146,22 +125,6 @@ returns-3 c =
 
 pub resolve-alias-spec : {M : Type 1} → statement M
 resolve-alias-spec =
-    tie.close
-    (tie.spec
-    resolved-requires
-    enum-known-said
-    enum-told
-    resolved-requires-2
-    enum-known-told
-    enum-told-2
-    keys-of-requires
-    keys-of-requires-2
-    array-share-prefix-names
-    slice-aggregate-add-alias
-    array-share-prefix-aims
-    slice-aggregate-add-alias-2
-    add-alias-requires
-    returns
-    returns-2
-    same-length
-    returns-3)
+    tie.close (tie.spec (λ c κs. search needs) (λ c. search needs) (λ c. search needs) (λ c κs. search needs) (λ c. search needs) (λ c. search needs)
+    keys-of-requires keys-of-requires-2 array-share-prefix-names slice-aggregate-add-alias array-share-prefix-aims slice-aggregate-add-alias-2
+    add-alias-requires returns returns-2 (λ c. search needs) returns-3)

@@ -9,18 +9,6 @@ use borrow.Author.Needs.{needs}
 use Rattle.namespace.proofs.inner.search.Statement.{statement}
 use Rattle.namespace.proofs.inner.search.Tie as tie
 
-settled-requires : tie.Need-settled-requires
-settled-requires c κs = search needs
-
-enum-known-said : tie.Need-enum-known-said
-enum-known-said c = search needs
-
-not-found-requires : tie.Need-not-found-requires
-not-found-requires c κs = search needs
-
-enum-told : tie.Need-enum-told
-enum-told c = search needs
-
 is-bare-requires : tie.Need-is-bare-requires
 is-bare-requires c κs = c .before .before .before .before .before .pre .1
 
@@ -66,15 +54,5 @@ returns-3 c =
 
 pub search-spec : {M : Type 1} → statement M
 search-spec =
-    tie.close
-    (tie.spec
-    settled-requires
-    enum-known-said
-    not-found-requires
-    enum-told
-    is-bare-requires
-    search-up-requires
-    search-once-requires
-    returns
-    returns-2
-    returns-3)
+    tie.close (tie.spec (λ c κs. search needs) (λ c. search needs) (λ c κs. search needs) (λ c. search needs) is-bare-requires search-up-requires
+    search-once-requires returns returns-2 returns-3)

@@ -20,9 +20,6 @@ search-level-up-requires c κs =
 returns : tie.Need-returns
 returns c = c .search-level-up .ensures
 
-is-path-requires : tie.Need-is-path-requires
-is-path-requires c κs = search needs
-
 returns-2 : tie.Need-returns-2
 returns-2 c =
     let c3 = c .before .before .before in
@@ -31,9 +28,6 @@ returns-2 c =
     let len : length (c5 .args .level-name .bytes) ≡ 128 = search needs in
     same-told (sym (name-whole componentLimit (c5 .args .level-name) len (c5 .pre .1))) refl
     ∙ ap (told componentLimit) (level-same limits ws (c5 .args .level-name) (c5 .args .starting-scope) (c5 .pre .0) (c5 .pre .1) (sym (c3 .is-bare .ensures) ∙ c .before .before .if1 .left) (sym (c .before .is-path .ensures) ∙ c .if2 .taken))
-
-no-level-requires : tie.Need-no-level-requires
-no-level-requires c κs = search needs
 
 returns-3 : tie.Need-returns-3
 returns-3 c =
@@ -46,12 +40,4 @@ returns-3 c =
 
 pub search-for-level-spec : {M : Type 1} → statement M
 search-for-level-spec =
-    tie.close
-    (tie.spec
-    is-bare-requires
-    search-level-up-requires
-    returns
-    is-path-requires
-    returns-2
-    no-level-requires
-    returns-3)
+    tie.close (tie.spec is-bare-requires search-level-up-requires returns (λ c κs. search needs) returns-2 (λ c κs. search needs) returns-3)

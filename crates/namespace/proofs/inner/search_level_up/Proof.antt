@@ -1,5 +1,5 @@
 -- The scope, and then outwards.
-use mathlib.Core.Path.{ap, sym, _∙_}
+use mathlib.Core.Path.{ap, _∙_}
 use Rattle.name_object.specs.Component.{componentLimit}
 use Rattle.name_object.specs.Memory.{told, pathOf}
 use Rattle.table.specs.Limits.{limits}
@@ -8,18 +8,6 @@ use Rattle.namespace.proofs.SearchCalls.{level-scope, level-bare}
 use borrow.Author.Needs.{needs}
 use Rattle.namespace.proofs.inner.search_level_up.Statement.{statement}
 use Rattle.namespace.proofs.inner.search_level_up.Tie as tie
-
-settled-requires : tie.Need-settled-requires
-settled-requires c κs = search needs
-
-enum-known-said : tie.Need-enum-known-said
-enum-known-said c = search needs
-
-no-level-requires : tie.Need-no-level-requires
-no-level-requires c κs = search needs
-
-enum-told : tie.Need-enum-told
-enum-told c = search needs
 
 level-up-requires : tie.Need-level-up-requires
 level-up-requires c κs =
@@ -45,12 +33,4 @@ returns-2 c =
 
 pub search-level-up-spec : {M : Type 1} → statement M
 search-level-up-spec =
-    tie.close
-    (tie.spec
-    settled-requires
-    enum-known-said
-    no-level-requires
-    enum-told
-    level-up-requires
-    returns
-    returns-2)
+    tie.close (tie.spec (λ c κs. search needs) (λ c. search needs) (λ c κs. search needs) (λ c. search needs) level-up-requires returns returns-2)

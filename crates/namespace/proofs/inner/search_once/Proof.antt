@@ -19,15 +19,6 @@ use Rattle.namespace.proofs.inner.search_once.Tie as tie
 resolved-requires : tie.Need-resolved-requires
 resolved-requires c κs = (c .before .pre .1, c .before .pre .2 .path)
 
-enum-known-said : tie.Need-enum-known-said
-enum-known-said c = search needs
-
-not-found-requires : tie.Need-not-found-requires
-not-found-requires c κs = search needs
-
-enum-told : tie.Need-enum-told
-enum-told c = search needs
-
 keys-of-requires : tie.Need-keys-of-requires
 keys-of-requires c κs =
     let c3 = c .before .before .before in
@@ -60,15 +51,6 @@ look-up-requires c κs =
       rw (c .before .keys-of .ensures) (kept-keyed componentLimit _
           (settled-kept (c5 .resolved .result .name) ((against-done (c7 .args .path) (c7 .args .scope) (c7 .pre .1) (c7 .pre .2 .path) (c5 .resolved .result) (c5 .resolved .ensures) (c3 .enum-told .given .1)) .0)) (omega arith)),
     )
-
-enum-known-found : tie.Need-enum-known-found
-enum-known-found c = search needs
-
-not-found-requires-2 : tie.Need-not-found-requires-2
-not-found-requires-2 c κs = search needs
-
-enum-known-found-2 : tie.Need-enum-known-found-2
-enum-known-found-2 c = search needs
 
 returns : tie.Need-returns
 returns c =
@@ -106,19 +88,5 @@ returns-3 c =
 
 pub search-once-spec : {M : Type 1} → statement M
 search-once-spec =
-    tie.close
-    (tie.spec
-    resolved-requires
-    enum-known-said
-    not-found-requires
-    enum-told
-    keys-of-requires
-    array-share-prefix-keys
-    slice-aggregate-look-up
-    look-up-requires
-    enum-known-found
-    not-found-requires-2
-    enum-known-found-2
-    returns
-    returns-2
-    returns-3)
+    tie.close (tie.spec resolved-requires (λ c. search needs) (λ c κs. search needs) (λ c. search needs) keys-of-requires array-share-prefix-keys
+    slice-aggregate-look-up look-up-requires (λ c. search needs) (λ c κs. search needs) (λ c. search needs) returns returns-2 returns-3)

@@ -30,12 +30,6 @@ slice-aggregate-nearest-value c =
     let ws = c .before .before .before .before .args .table .now in
     sym (length-ls limits (omega arith) ws (c .before .before .before .before .pre .0))
 
-sub-nearest-value : tie.Need-sub-nearest-value
-sub-nearest-value c = search needs
-
-part-nearest-value-start : tie.Need-part-nearest-value-start
-part-nearest-value-start c = search needs
-
 part-nearest-value-end : tie.Need-part-nearest-value-end
 part-nearest-value-end c =
     let ws = c .before .before .before .before .args .table .now in
@@ -57,9 +51,6 @@ nearest-value-requires : tie.Need-nearest-value-requires
 nearest-value-requires c κs =
     let ws = c .before .before .before .before .before .before .args .table .now in
     (omega (arith, length-ls limits (omega arith) ws (c .before .before .before .before .before .before .pre .0)), bindings-held limits (omega arith) ws (c .before .before .before .before .before .before .pre .0))
-
-not-found-requires : tie.Need-not-found-requires
-not-found-requires c κs = search needs
 
 returns : tie.Need-returns
 returns c =
@@ -125,21 +116,6 @@ returns-2 c =
 
 pub search-up-spec : {M : Type 1} → statement M
 search-up-spec =
-    tie.close
-    (tie.spec
-    keys-of-requires
-    bare-key-requires
-    slice-aggregate-nearest-value
-    sub-nearest-value
-    part-nearest-value-start
-    part-nearest-value-end
-    array-share-prefix-keys
-    slice-aggregate-nearest-value-2
-    nearest-value-requires
-    not-found-requires
-    returns
-    full-name-requires
-    cast-t21
-    sub-t13
-    add-t23
+    tie.close (tie.spec keys-of-requires bare-key-requires slice-aggregate-nearest-value (λ c. search needs) (λ c. search needs) part-nearest-value-end
+    array-share-prefix-keys slice-aggregate-nearest-value-2 nearest-value-requires (λ c κs. search needs) returns full-name-requires cast-t21 sub-t13 add-t23
     returns-2)

@@ -20,20 +20,8 @@ not : (cs : List Component) → absolute cs ≡ false → refuses 11 0 ≡ settl
 unfolding settled
 not cs h = rw h
 
-is-path-requires : tie.Need-is-path-requires
-is-path-requires c κs = search needs
-
-starts-at-root-requires : tie.Need-starts-at-root-requires
-starts-at-root-requires c κs = search needs
-
 normal-requires : tie.Need-normal-requires
 normal-requires c κs = sym (c .before .before .before .is-path .ensures) ∙ c .before .before .if1 .taken
-
-empty-requires : tie.Need-empty-requires
-empty-requires c κs = search needs
-
-empty-requires-2 : tie.Need-empty-requires-2
-empty-requires-2 c κs = search needs
 
 returns : tie.Need-returns
 returns c =
@@ -60,13 +48,4 @@ returns-3 c =
 
 pub settled-spec : {M : Type 1} → statement M
 settled-spec =
-    tie.close
-    (tie.spec
-    is-path-requires
-    starts-at-root-requires
-    normal-requires
-    empty-requires
-    empty-requires-2
-    returns
-    returns-2
-    returns-3)
+    tie.close (tie.spec (λ c κs. search needs) (λ c κs. search needs) normal-requires (λ c κs. search needs) (λ c κs. search needs) returns returns-2 returns-3)

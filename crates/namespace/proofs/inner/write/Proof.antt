@@ -6,27 +6,15 @@ use native.Mathlib.Omega.{arith}
 use Rattle.namespace.proofs.inner.write.Statement.{statement}
 use Rattle.namespace.proofs.inner.write.Tie as tie
 
-cast-h : tie.Need-cast-h
-cast-h c = search needs
-
 slice-read-made : tie.Need-slice-read-made
 slice-read-made c =
     let ws = c .before .before .args .table .now in
     omega (arith, long limits (omega arith) ws (c .before .before .pre))
 
-add-table : tie.Need-add-table
-add-table c = search needs
-
-mul-table : tie.Need-mul-table
-mul-table c = search needs
-
 slice-write-table : tie.Need-slice-write-table
 slice-write-table c =
     let ws = c .before .before .before .args .table .now in
     omega (arith, long limits (omega arith) ws (c .before .before .before .pre), long-enough limits (omega arith) ws (c .before .before .before .pre))
-
-same-length : tie.Need-same-length
-same-length c = search needs
 
 returns : tie.Need-returns
 returns c =
@@ -40,13 +28,4 @@ returns-2 c =
 
 pub write-spec : {M : Type 1} → statement M
 write-spec =
-    tie.close
-    (tie.spec
-    cast-h
-    slice-read-made
-    add-table
-    mul-table
-    slice-write-table
-    same-length
-    returns
-    returns-2)
+    tie.close (tie.spec (λ c. search needs) slice-read-made (λ c. search needs) (λ c. search needs) slice-write-table (λ c. search needs) returns returns-2)

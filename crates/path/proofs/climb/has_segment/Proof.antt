@@ -1,7 +1,4 @@
 -- What stands last, by the height and by the last byte in memory.
-use mathlib.Core.Path.{_≡_, refl, sym, _∙_, ap}
-use mathlib.Core.Bool.{true, false}
-use borrow.Author.Tests.{not-true}
 use Rattle.path.proofs.Basics.{never}
 use Rattle.path.proofs.Climbs.{last-none, last-over, last-byte}
 use borrow.Author.Needs.{needs}
@@ -17,19 +14,10 @@ returns-2 : tie.Need-returns-2
 returns-2 c =
     record { some = λ t. omega arith; is = λ done s. last-over (c .before .before .args .out .now) (c .before .before .args .high) done s (omega arith) }
 
-sub-last : tie.Need-sub-last
-sub-last c = search needs
-
-mul-last : tie.Need-mul-last
-mul-last c = search needs
-
-element-copy-out-result : tie.Need-element-copy-out-result
-element-copy-out-result c = search needs
-
 returns-3 : tie.Need-returns-3
 returns-3 c =
     record { some = λ t. omega arith; is = λ done s. last-byte (c .before .before .before .args .out .now) (c .before .before .before .args .high) done s (omega arith) (omega arith) }
 
 pub has-segment-spec : {M : Type 1} → statement M
 has-segment-spec =
-    tie.close (tie.spec returns returns-2 sub-last mul-last element-copy-out-result returns-3)
+    tie.close (tie.spec returns returns-2 (λ c. search needs) (λ c. search needs) (λ c. search needs) returns-3)

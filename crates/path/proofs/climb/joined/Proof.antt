@@ -1,5 +1,5 @@
 -- A walk over the scope, and then one over the path on what stands.
-use mathlib.Core.Path.{_≡_, refl, sym, _∙_, ap}
+use mathlib.Core.Path.{sym, _∙_}
 use mathlib.Core.List.{[], _++_}
 use Rattle.pkg_length.specs.Refusal.{gives, refuses}
 use Rattle.name_object.specs.Component.{componentLimit}
@@ -19,32 +19,11 @@ walk-requires : tie.Need-walk-requires
 walk-requires c κs =
     (omega arith, path-fine componentLimit (nameIn (c .before .args .below) (c .before .args .scope .now)) (c .before .pre .good) .1)
 
-enum-known-n : tie.Need-enum-known-n
-enum-known-n c = search needs
-
 walk-requires-2 : tie.Need-walk-requires-2
 walk-requires-2 c κs =
     let w = walked-as (c .before .before .n .given .1) (c .before .before .before .before .walk .ensures) in
     let l = path-fine componentLimit (nameIn (c .before .before .before .before .before .before .args .below) (c .before .before .before .before .before .before .args .scope .now)) (c .before .before .before .before .before .before .pre .good) .1 in
     (omega (arith, w .low), path-fine componentLimit (nameIn (c .before .before .before .before .before .before .args .count) (c .before .before .before .before .before .before .args .path .now)) (c .before .before .before .before .before .before .pre .ok) .1)
-
-enum-known-m : tie.Need-enum-known-m
-enum-known-m c = search needs
-
-finish-requires : tie.Need-finish-requires
-finish-requires c κs = search needs
-
-enum-told : tie.Need-enum-told
-enum-told c = search needs
-
-refuse-requires : tie.Need-refuse-requires
-refuse-requires c κs = search needs
-
-enum-told-2 : tie.Need-enum-told-2
-enum-told-2 c = search needs
-
-refuse-requires-2 : tie.Need-refuse-requires-2
-refuse-requires-2 c κs = search needs
 
 returns : tie.Need-returns
 unfolding zeros
@@ -87,17 +66,5 @@ returns-3 c =
 
 pub joined-spec : {M : Type 1} → statement M
 joined-spec =
-    tie.close
-    (tie.spec
-    walk-requires
-    enum-known-n
-    walk-requires-2
-    enum-known-m
-    finish-requires
-    enum-told
-    refuse-requires
-    enum-told-2
-    refuse-requires-2
-    returns
-    returns-2
-    returns-3)
+    tie.close (tie.spec walk-requires (λ c. search needs) walk-requires-2 (λ c. search needs) (λ c κs. search needs) (λ c. search needs) (λ c κs. search needs)
+    (λ c. search needs) (λ c κs. search needs) returns returns-2 returns-3)

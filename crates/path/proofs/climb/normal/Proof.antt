@@ -1,5 +1,5 @@
 -- A walk from nothing, and how it ends.
-use mathlib.Core.Path.{_≡_, refl, sym, _∙_, ap}
+use mathlib.Core.Path.{sym, _∙_}
 use mathlib.Core.List.{[]}
 use Rattle.name_object.specs.Component.{componentLimit}
 use Rattle.name_object.specs.Memory.{zeros, pathOf}
@@ -18,18 +18,6 @@ walk-requires : tie.Need-walk-requires
 walk-requires c κs =
     (omega arith, path-fine componentLimit (nameIn (c .before .args .count) (c .before .args .path .now)) (c .before .pre .1) .1)
 
-enum-known-n : tie.Need-enum-known-n
-enum-known-n c = search needs
-
-finish-requires : tie.Need-finish-requires
-finish-requires c κs = search needs
-
-enum-told : tie.Need-enum-told
-enum-told c = search needs
-
-refuse-requires : tie.Need-refuse-requires
-refuse-requires c κs = search needs
-
 returns : tie.Need-returns
 unfolding zeros
 returns c =
@@ -47,12 +35,4 @@ returns-2 c =
 
 pub normal-spec : {M : Type 1} → statement M
 normal-spec =
-    tie.close
-    (tie.spec
-    walk-requires
-    enum-known-n
-    finish-requires
-    enum-told
-    refuse-requires
-    returns
-    returns-2)
+    tie.close (tie.spec walk-requires (λ c. search needs) (λ c κs. search needs) (λ c. search needs) (λ c κs. search needs) returns returns-2)

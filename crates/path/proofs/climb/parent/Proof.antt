@@ -1,5 +1,5 @@
 -- A walk from nothing, and then one step up.
-use mathlib.Core.Path.{_≡_, refl, sym, _∙_, ap}
+use mathlib.Core.Path.{sym, _∙_}
 use mathlib.Core.List.{[]}
 use Prim.Native.Nat.{_≤_}
 use lib.ListN.{length}
@@ -21,24 +21,12 @@ walk-requires : tie.Need-walk-requires
 walk-requires c κs =
     (omega arith, path-fine componentLimit (nameIn (c .before .args .count) (c .before .args .path .now)) (c .before .pre .1) .1)
 
-enum-known-n : tie.Need-enum-known-n
-enum-known-n c = search needs
-
-has-segment-requires : tie.Need-has-segment-requires
-has-segment-requires c κs = search needs
-
 sub-put : tie.Need-sub-put
 sub-put c = omega (arith, c .before .before .has-segment .ensures .some (c .before .if1 .taken))
-
-put-requires : tie.Need-put-requires
-put-requires c κs = search needs
 
 sub-finish : tie.Need-sub-finish
 sub-finish c =
     omega (arith, c .before .before .before .has-segment .ensures .some (c .before .before .if1 .taken))
-
-finish-requires : tie.Need-finish-requires
-finish-requires c κs = search needs
 
 returns : tie.Need-returns
 unfolding zeros
@@ -51,15 +39,6 @@ returns c =
     let m = climb-pop _ (c .before .before .before .before .before .before .before .n .given .0 .0) (k .0) (k .2) (sym (c .before .before .before .before .has-segment .ensures .is (k .0) (k .2)) ∙ c .before .before .before .if1 .taken) in
     answers-as (parent-down componentLimit (pathOf name) (k .0) (m .0) (k .1) r (m .1))
     (c .finish .ensures (upright (m .0)) (c .before .put .ensures ∙ m .2 .memory) (m .2 .height ∙ sym (length-upright (m .0))))
-
-refuse-requires : tie.Need-refuse-requires
-refuse-requires c κs = search needs
-
-enum-told : tie.Need-enum-told
-enum-told c = search needs
-
-refuse-requires-2 : tie.Need-refuse-requires-2
-refuse-requires-2 c κs = search needs
 
 returns-2 : tie.Need-returns-2
 unfolding zeros
@@ -80,18 +59,5 @@ returns-3 c =
 
 pub parent-spec : {M : Type 1} → statement M
 parent-spec =
-    tie.close
-    (tie.spec
-    walk-requires
-    enum-known-n
-    has-segment-requires
-    sub-put
-    put-requires
-    sub-finish
-    finish-requires
-    returns
-    refuse-requires
-    enum-told
-    refuse-requires-2
-    returns-2
-    returns-3)
+    tie.close (tie.spec walk-requires (λ c. search needs) (λ c κs. search needs) sub-put (λ c κs. search needs) sub-finish (λ c κs. search needs) returns
+    (λ c κs. search needs) (λ c. search needs) (λ c κs. search needs) returns-2 returns-3)

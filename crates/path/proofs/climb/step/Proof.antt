@@ -1,6 +1,5 @@
 -- A law for each way that a step goes.
-use mathlib.Core.Path.{_≡_, refl, sym, _∙_, ap}
-use mathlib.Core.Bool.{true, false}
+use mathlib.Core.Path.{refl, sym, _∙_, ap}
 use Rattle.pkg_length.specs.Refusal.{gives}
 use Rattle.path.specs.Normal.{step}
 use Rattle.path.specs.declared.climb.Climb.{Climb}
@@ -11,14 +10,8 @@ use Prim.Native.Nat.{_+_, _-_}
 use Rattle.path.proofs.climb.step.Statement.{statement}
 use Rattle.path.proofs.climb.step.Tie as tie
 
-has-segment-requires : tie.Need-has-segment-requires
-has-segment-requires c κs = search needs
-
 sub-put : tie.Need-sub-put
 sub-put c = omega (arith, c .before .before .has-segment .ensures .some (c .before .if2 .taken))
-
-put-requires : tie.Need-put-requires
-put-requires c κs = search needs
 
 sub-t12 : tie.Need-sub-t12
 sub-t12 c =
@@ -44,12 +37,6 @@ returns-2 c =
           ∙ climb-stop (a .out .now) (a .high) done s (sym (c .before .has-segment .ensures .is done s) ∙ c .if2 .left);
     }
 
-put-requires-2 : tie.Need-put-requires-2
-put-requires-2 c κs = search needs
-
-add-t15 : tie.Need-add-t15
-add-t15 c = search needs
-
 returns-3 : tie.Need-returns-3
 returns-3 c =
     let a = c .before .before .before .args in
@@ -62,14 +49,4 @@ returns-3 c =
 
 pub step-spec : {M : Type 1} → statement M
 step-spec =
-    tie.close
-    (tie.spec
-    has-segment-requires
-    sub-put
-    put-requires
-    sub-t12
-    returns
-    returns-2
-    put-requires-2
-    add-t15
-    returns-3)
+    tie.close (tie.spec (λ c κs. search needs) sub-put (λ c κs. search needs) sub-t12 returns returns-2 (λ c κs. search needs) (λ c. search needs) returns-3)

@@ -1,10 +1,9 @@
 -- After i components the walk stands where `Along` says; a step that finds no segment ends it.
-use mathlib.Core.Path.{_≡_, refl, sym, _∙_, ap}
-use mathlib.Core.Bool.{true, false}
+use mathlib.Core.Path.{_≡_}
+use mathlib.Core.Bool.{true}
 use mathlib.Core.List.{List}
 use Prim.Native.Nat.{_+_, _-_, _≤_, _<_}
 use lib.ListN.{length, getD}
-use Rattle.pkg_length.specs.Refusal.{gives}
 use Rattle.name_object.specs.Component.{Component, up, fine, componentLimit}
 use Rattle.name_object.specs.Memory.{pathOk, pathOf}
 use Rattle.path.specs.Inside.{nameIn, fresh, Shows}
@@ -28,42 +27,6 @@ abbrev μ-loop : tie.MeasureT-loop
 loop-holds : tie.Need-loop-holds Inv-loop μ-loop
 loop-holds c = (omega arith, omega arith, λ done s len p g. along-none _ _ done _ s g)
 
-mul-at : tie.Need-mul-at Inv-loop μ-loop
-mul-at c = search needs
-
-element-copy-out-step : tie.Need-element-copy-out-step Inv-loop μ-loop
-element-copy-out-step c = search needs
-
-add-step : tie.Need-add-step Inv-loop μ-loop
-add-step c = search needs
-
-element-copy-out-step-2 : tie.Need-element-copy-out-step-2 Inv-loop μ-loop
-element-copy-out-step-2 c = search needs
-
-add-step-2 : tie.Need-add-step-2 Inv-loop μ-loop
-add-step-2 c = search needs
-
-element-copy-out-step-3 : tie.Need-element-copy-out-step-3 Inv-loop μ-loop
-element-copy-out-step-3 c = search needs
-
-add-step-3 : tie.Need-add-step-3 Inv-loop μ-loop
-add-step-3 c = search needs
-
-element-copy-out-step-4 : tie.Need-element-copy-out-step-4 Inv-loop μ-loop
-element-copy-out-step-4 c = search needs
-
-step-requires : tie.Need-step-requires Inv-loop μ-loop
-step-requires c κs = omega arith
-
-enum-known-n : tie.Need-enum-known-n Inv-loop μ-loop
-enum-known-n c = search needs
-
-add-i : tie.Need-add-i Inv-loop μ-loop
-add-i c = search needs
-
-loop-less : tie.Need-loop-less Inv-loop μ-loop
-loop-less c = omega arith
-
 loop-again : tie.Need-loop-again Inv-loop μ-loop
 loop-again c =
     let a = c .before .before .before .before .before .before .before .before .before .before .before .args in
@@ -79,9 +42,6 @@ loop-again c =
           (t .is (w .now) (getD (pathOf name) (l .i) up) (w .shows) (along-fine done (pathOf name) (l .i) k (l .out) (l .high) w)
           (path-byte name (l .i) len p (omega arith))),
     )
-
-enum-told : tie.Need-enum-told Inv-loop μ-loop
-enum-told c = search needs
 
 returns : tie.Need-returns Inv-loop μ-loop
 returns c =
@@ -111,24 +71,6 @@ returns-2 c =
 
 pub walk-spec : {M : Type 1} → statement M
 walk-spec =
-    tie.close
-    (tie.spec
-    Inv-loop
-    μ-loop
-    loop-holds
-    mul-at
-    element-copy-out-step
-    add-step
-    element-copy-out-step-2
-    add-step-2
-    element-copy-out-step-3
-    add-step-3
-    element-copy-out-step-4
-    step-requires
-    enum-known-n
-    add-i
-    loop-less
-    loop-again
-    enum-told
-    returns
-    returns-2)
+    tie.close (tie.spec Inv-loop μ-loop loop-holds (λ c. search needs) (λ c. search needs) (λ c. search needs) (λ c. search needs) (λ c. search needs)
+    (λ c. search needs) (λ c. search needs) (λ c. search needs) (λ c κs. omega arith) (λ c. search needs) (λ c. search needs) (λ c. omega arith) loop-again
+    (λ c. search needs) returns returns-2)

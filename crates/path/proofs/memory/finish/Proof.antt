@@ -1,5 +1,5 @@
 -- Up to 32 components memory shows them all.
-use mathlib.Core.Path.{_≡_, refl, sym, _∙_, ap}
+use mathlib.Core.Path.{refl, sym, _∙_}
 use Rattle.name_object.specs.Component.{componentLimit}
 use Rattle.name_object.specs.Memory.{nameOf}
 use Rattle.name_object.proofs.Memory.{same-name}
@@ -10,9 +10,6 @@ use borrow.Author.Needs.{needs}
 use native.Mathlib.Omega.{arith}
 use Rattle.path.proofs.memory.finish.Statement.{statement}
 use Rattle.path.proofs.memory.finish.Tie as tie
-
-refuse-requires : tie.Need-refuse-requires
-refuse-requires c κs = search needs
 
 returns : tie.Need-returns
 returns c =
@@ -26,4 +23,4 @@ returns-2 c =
     (same-told (same-name n (m ∙ shown-fits componentLimit cs (omega arith))) refl)
 
 pub finish-spec : {M : Type 1} → statement M
-finish-spec = tie.close (tie.spec refuse-requires returns returns-2)
+finish-spec = tie.close (tie.spec (λ c κs. search needs) returns returns-2)

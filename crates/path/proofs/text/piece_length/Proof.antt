@@ -1,9 +1,6 @@
 -- One answer for each kind of component.
-use mathlib.Core.Path.{_≡_, refl, sym, _∙_, ap}
 use borrow.Author.Tests.{eq-eqb, ne-eqb}
 use Rattle.path.specs.Inside.{pieceLength}
-use borrow.Author.Needs.{needs}
-use native.Mathlib.Omega.{arith}
 use Rattle.path.proofs.text.piece_length.Statement.{statement}
 use Rattle.path.proofs.text.piece_length.Tie as tie
 

@@ -1,8 +1,8 @@
 -- The reader is on its way to the whole answer; each byte is a turn.
-use mathlib.Core.Path.{_≡_, refl, sym, _∙_, ap}
+use mathlib.Core.Path.{_≡_}
 use mathlib.Core.List.{List}
 use Prim.Native.Nat.{suc, _+_, _-_, _≤_}
-use lib.ListN.{length, getD, drop}
+use lib.ListN.{length, drop}
 use Rattle.name_object.specs.Component.{Component, componentLimit}
 use Rattle.path.specs.Text.{reading, before}
 use Rattle.path.specs.Inside.{shown, after, OnWay}
@@ -24,21 +24,6 @@ abbrev μ-loop : tie.MeasureT-loop
 loop-holds : tie.Need-loop-holds Inv-loop μ-loop
 loop-holds c = (omega arith, omega arith, omega arith, λ done e h. way-start _ _ _ _ done e h)
 
-shared-slice-read-read-byte : tie.Need-shared-slice-read-read-byte Inv-loop μ-loop
-shared-slice-read-read-byte c = search needs
-
-read-byte-requires : tie.Need-read-byte-requires Inv-loop μ-loop
-read-byte-requires c κs = omega arith
-
-enum-known-t : tie.Need-enum-known-t Inv-loop μ-loop
-enum-known-t c = search needs
-
-add-i : tie.Need-add-i Inv-loop μ-loop
-add-i c = search needs
-
-loop-less : tie.Need-loop-less Inv-loop μ-loop
-loop-less c = omega arith
-
 loop-again : tie.Need-loop-again Inv-loop μ-loop
 loop-again c =
     let a = c .before .before .before .before .before .before .before .before .before .args in
@@ -52,12 +37,6 @@ loop-again c =
           way-on (c .before .before .before .read-byte .last .0) (c .before .t .given .0 .0) (l .i) (a .text .now) w
           (t .is (l .i) (drop (suc (l .i)) (a .text .now)) w (way-next (l .out) (l .s) (l .i) (a .text .now) w (omega arith) (l .inv .3 done e h))),
     )
-
-enum-told : tie.Need-enum-told Inv-loop μ-loop
-enum-told c = search needs
-
-sub-t14 : tie.Need-sub-t14 Inv-loop μ-loop
-sub-t14 c = omega arith
 
 returns : tie.Need-returns Inv-loop μ-loop
 returns c =
@@ -74,9 +53,6 @@ returns-2 c =
     let l = c .before .before .before .loop in
     λ done e h. end-before (l .out) (l .s) (l .i) (a .text .now) _ (l .inv .3 done e h) (omega arith) (c .if1 .taken)
 
-add-t16 : tie.Need-add-t16 Inv-loop μ-loop
-add-t16 c = omega arith
-
 returns-3 : tie.Need-returns-3 Inv-loop μ-loop
 returns-3 c =
     let a = c .before .before .before .before .before .before .args in
@@ -85,20 +61,5 @@ returns-3 c =
 
 pub read-parts-spec : {M : Type 1} → statement M
 read-parts-spec =
-    tie.close
-    (tie.spec
-    Inv-loop
-    μ-loop
-    loop-holds
-    shared-slice-read-read-byte
-    read-byte-requires
-    enum-known-t
-    add-i
-    loop-less
-    loop-again
-    enum-told
-    sub-t14
-    returns
-    returns-2
-    add-t16
-    returns-3)
+    tie.close (tie.spec Inv-loop μ-loop loop-holds (λ c. search needs) (λ c κs. omega arith) (λ c. search needs) (λ c. search needs) (λ c. omega arith)
+    loop-again (λ c. search needs) (λ c. omega arith) returns returns-2 (λ c. omega arith) returns-3)

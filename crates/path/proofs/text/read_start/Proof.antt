@@ -1,19 +1,10 @@
 -- A law for each way that a byte before a segment is taken.
-use mathlib.Core.Path.{_≡_, refl, sym, _∙_, ap}
-use mathlib.Core.List.{List, _∷_}
-use Prim.Native.Nat.{_+_}
-use Rattle.path.specs.Inside.{OnWay}
+use mathlib.Core.Path.{refl, sym, _∙_}
 use Rattle.path.proofs.Readings.{start-up, start-lead, start-wrong, way-memory}
 use borrow.Author.Needs.{needs}
 use native.Mathlib.Omega.{arith}
 use Rattle.path.proofs.text.read_start.Statement.{statement}
 use Rattle.path.proofs.text.read_start.Tie as tie
-
-put-requires : tie.Need-put-requires
-put-requires c κs = search needs
-
-add-t7 : tie.Need-add-t7
-add-t7 c = search needs
 
 returns : tie.Need-returns
 returns c =
@@ -22,12 +13,6 @@ returns c =
       low = omega arith;
       is = λ i rest whole o. way-memory (c .put .ensures) (start-up (a .out .now) (record { count = a .count; chars = 0 }) i (a .b) rest whole o refl (c .before .before .if1 .taken));
     }
-
-is-lead-name-char-requires : tie.Need-is-lead-name-char-requires
-is-lead-name-char-requires c κs = search needs
-
-put-requires-2 : tie.Need-put-requires-2
-put-requires-2 c κs = search needs
 
 returns-2 : tie.Need-returns-2
 returns-2 c =
@@ -50,12 +35,4 @@ returns-3 c =
 
 pub read-start-spec : {M : Type 1} → statement M
 read-start-spec =
-    tie.close
-    (tie.spec
-    put-requires
-    add-t7
-    returns
-    is-lead-name-char-requires
-    put-requires-2
-    returns-2
-    returns-3)
+    tie.close (tie.spec (λ c κs. search needs) (λ c. search needs) returns (λ c κs. search needs) (λ c κs. search needs) returns-2 returns-3)

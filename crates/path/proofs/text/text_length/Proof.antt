@@ -1,5 +1,5 @@
 -- What was counted and what is left make the whole.
-use mathlib.Core.Path.{_≡_, refl, sym, _∙_, ap}
+use mathlib.Core.Path.{_≡_, ap}
 use Prim.Native.Nat.{_+_, _-_, _≤_, _<_}
 use lib.ListN.{length, drop}
 use Rattle.name_object.specs.Component.{componentLimit}
@@ -29,28 +29,10 @@ loop-holds c =
     let k = path-fine componentLimit name (c .pre .1) .1 in
     (omega arith, k, text-bound componentLimit (pathOf name) (omega arith) (omega (arith, length-path name)), omega arith)
 
-add-piece-length : tie.Need-add-piece-length Inv-loop μ-loop
-add-piece-length c = search needs
-
-mul-piece-length : tie.Need-mul-piece-length Inv-loop μ-loop
-mul-piece-length c = omega arith
-
-element-copy-out-piece-length : tie.Need-element-copy-out-piece-length Inv-loop μ-loop
-element-copy-out-piece-length c = omega arith
-
-piece-length-requires : tie.Need-piece-length-requires Inv-loop μ-loop
-piece-length-requires c κs = search needs
-
 add-n : tie.Need-add-n Inv-loop μ-loop
 add-n c =
     let name = nameIn (c .before .before .before .before .args .count) (c .before .before .before .before .args .bytes .now) in
     omega (arith, c .piece-length .ensures, length-next name (c .before .before .before .loop .i) (c .before .before .before .before .pre .0) (c .before .before .before .before .pre .1) (omega arith))
-
-add-i : tie.Need-add-i Inv-loop μ-loop
-add-i c = search needs
-
-loop-less : tie.Need-loop-less Inv-loop μ-loop
-loop-less c = omega arith
 
 loop-again : tie.Need-loop-again Inv-loop μ-loop
 loop-again c =
@@ -65,17 +47,5 @@ returns c =
 
 pub text-length-spec : {M : Type 1} → statement M
 text-length-spec =
-    tie.close
-    (tie.spec
-    Inv-loop
-    μ-loop
-    loop-holds
-    add-piece-length
-    mul-piece-length
-    element-copy-out-piece-length
-    piece-length-requires
-    add-n
-    add-i
-    loop-less
-    loop-again
-    returns)
+    tie.close (tie.spec Inv-loop μ-loop loop-holds (λ c. search needs) (λ c. omega arith) (λ c. omega arith) (λ c κs. search needs) add-n (λ c. search needs)
+    (λ c. omega arith) loop-again returns)

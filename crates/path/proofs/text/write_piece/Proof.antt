@@ -1,8 +1,7 @@
 -- The stores of one piece.
-use mathlib.Core.Path.{_≡_, refl, sym, _∙_, ap}
-use mathlib.Core.List.{List}
-use Prim.Native.Nat.{ℕ, _+_, _≤_, _<_}
-use lib.ListN.{length, set, length-set}
+use mathlib.Core.Path.{sym, _∙_, ap}
+use Prim.Native.Nat.{ℕ, _+_, _<_}
+use lib.ListN.{length, length-set}
 use lib.Seq.{sets}
 use Rattle.path.proofs.Writings.{piece-some, piece-four, piece-first, piece-above, piece-more, piece-last, sets-four, sets-five}
 use borrow.Author.Needs.{needs}
@@ -13,23 +12,11 @@ use Rattle.path.proofs.text.write_piece.Tie as tie
 slice-write-out : tie.Need-slice-write-out
 slice-write-out c = omega (arith, piece-some (c .args .more) (c .args .a))
 
-add-result : tie.Need-add-result
-add-result c = search needs
-
-same-length : tie.Need-same-length
-same-length c = search needs
-
 returns : tie.Need-returns
 returns c =
     let a = c .before .args in
     let p = piece-first (a .more) (a .a) (a .b) (a .c) (a .d) (c .if1 .taken) in
     (ap (sets (a .out .now) (a .at)) (sym (p .0)), ap (λ (n : ℕ). a .at + n) (sym (p .1)))
-
-add-result-2 : tie.Need-add-result-2
-add-result-2 c = search needs
-
-same-length-2 : tie.Need-same-length-2
-same-length-2 c = search needs
 
 returns-2 : tie.Need-returns-2
 returns-2 c =
@@ -37,17 +24,11 @@ returns-2 c =
     let p = piece-above (a .more) (a .a) (a .b) (a .c) (a .d) (c .before .if1 .left) (c .if2 .taken) in
     (ap (sets (a .out .now) (a .at)) (sym (p .0)), ap (λ (n : ℕ). a .at + n) (sym (p .1)))
 
-add-out : tie.Need-add-out
-add-out c = search needs
-
 slice-write-out-2 : tie.Need-slice-write-out-2
 slice-write-out-2 c =
     let a = c .before .before .args in
     let k : a .at + 1 < length (a .out .now) = omega (arith, piece-four (a .more) (a .a) (c .before .if1 .left) (c .if2 .left)) in
     simp length-set k
-
-add-out-2 : tie.Need-add-out-2
-add-out-2 c = search needs
 
 slice-write-out-3 : tie.Need-slice-write-out-3
 slice-write-out-3 c =
@@ -55,17 +36,11 @@ slice-write-out-3 c =
     let k : a .at + 2 < length (a .out .now) = omega (arith, piece-four (a .more) (a .a) (c .before .if1 .left) (c .if2 .left)) in
     simp length-set k
 
-add-out-3 : tie.Need-add-out-3
-add-out-3 c = search needs
-
 slice-write-out-4 : tie.Need-slice-write-out-4
 slice-write-out-4 c =
     let a = c .before .before .args in
     let k : a .at + 3 < length (a .out .now) = omega (arith, piece-four (a .more) (a .a) (c .before .if1 .left) (c .if2 .left)) in
     simp length-set k
-
-add-out-4 : tie.Need-add-out-4
-add-out-4 c = search needs
 
 slice-write-out-5 : tie.Need-slice-write-out-5
 slice-write-out-5 c =
@@ -73,23 +48,11 @@ slice-write-out-5 c =
     let k : a .at + 4 < length (a .out .now) = omega (arith, piece-more (a .more) (a .a) 0 0 0 (c .before .before .if1 .left) (c .before .if2 .left) (c .if3 .taken) .1) in
     simp length-set k
 
-add-result-3 : tie.Need-add-result-3
-add-result-3 c = search needs
-
-same-length-3 : tie.Need-same-length-3
-same-length-3 c = search needs
-
 returns-3 : tie.Need-returns-3
 returns-3 c =
     let a = c .before .before .before .args in
     let p = piece-more (a .more) (a .a) (a .b) (a .c) (a .d) (c .before .before .if1 .left) (c .before .if2 .left) (c .if3 .taken) in
     (sets-five (a .out .now) (a .at) (a .a) (a .b) (a .c) (a .d) 0x2E ∙ ap (sets (a .out .now) (a .at)) (sym (p .0)), ap (λ (n : ℕ). a .at + n) (sym (p .1)))
-
-add-result-4 : tie.Need-add-result-4
-add-result-4 c = search needs
-
-same-length-4 : tie.Need-same-length-4
-same-length-4 c = search needs
 
 returns-4 : tie.Need-returns-4
 returns-4 c =
@@ -99,26 +62,6 @@ returns-4 c =
 
 pub write-piece-spec : {M : Type 1} → statement M
 write-piece-spec =
-    tie.close
-    (tie.spec
-    slice-write-out
-    add-result
-    same-length
-    returns
-    add-result-2
-    same-length-2
-    returns-2
-    add-out
-    slice-write-out-2
-    add-out-2
-    slice-write-out-3
-    add-out-3
-    slice-write-out-4
-    add-out-4
-    slice-write-out-5
-    add-result-3
-    same-length-3
-    returns-3
-    add-result-4
-    same-length-4
-    returns-4)
+    tie.close (tie.spec slice-write-out (λ c. search needs) (λ c. search needs) returns (λ c. search needs) (λ c. search needs) returns-2 (λ c. search needs)
+    slice-write-out-2 (λ c. search needs) slice-write-out-3 (λ c. search needs) slice-write-out-4 (λ c. search needs) slice-write-out-5 (λ c. search needs)
+    (λ c. search needs) returns-3 (λ c. search needs) (λ c. search needs) returns-4)

@@ -1,5 +1,5 @@
 -- The components before i are of a kind, so that what is left decides.
-use mathlib.Core.Path.{_≡_, refl, sym, _∙_, ap}
+use mathlib.Core.Path.{_≡_, sym, _∙_}
 use Prim.Native.Nat.{_-_, _*_, _≤_}
 use lib.Dec.{eqb}
 use lib.ListN.{drop}
@@ -28,39 +28,6 @@ loop-holds : tie.Need-loop-holds Inv-loop μ-loop
 loop-holds c =
     (omega arith, omega arith, path-within componentLimit (nameIn (c .before .args .count) (c .before .args .bytes .now)) (omega arith))
 
-mul-at : tie.Need-mul-at Inv-loop μ-loop
-mul-at c = omega arith
-
-element-copy-out-is-component : tie.Need-element-copy-out-is-component Inv-loop μ-loop
-element-copy-out-is-component c = omega arith
-
-add-is-component : tie.Need-add-is-component Inv-loop μ-loop
-add-is-component c = omega arith
-
-element-copy-out-is-component-2 : tie.Need-element-copy-out-is-component-2 Inv-loop μ-loop
-element-copy-out-is-component-2 c = omega arith
-
-add-is-component-2 : tie.Need-add-is-component-2 Inv-loop μ-loop
-add-is-component-2 c = omega arith
-
-element-copy-out-is-component-3 : tie.Need-element-copy-out-is-component-3 Inv-loop μ-loop
-element-copy-out-is-component-3 c = omega arith
-
-add-is-component-3 : tie.Need-add-is-component-3 Inv-loop μ-loop
-add-is-component-3 c = omega arith
-
-element-copy-out-is-component-4 : tie.Need-element-copy-out-is-component-4 Inv-loop μ-loop
-element-copy-out-is-component-4 c = omega arith
-
-is-component-requires : tie.Need-is-component-requires Inv-loop μ-loop
-is-component-requires c κs = search needs
-
-add-i : tie.Need-add-i Inv-loop μ-loop
-add-i c = omega arith
-
-loop-less : tie.Need-loop-less Inv-loop μ-loop
-loop-less c = omega arith
-
 loop-again : tie.Need-loop-again Inv-loop μ-loop
 loop-again c =
     let a = c .before .before .before .before .before .before .before .before .before .args in
@@ -73,9 +40,6 @@ returns-2 c =
     let l = c .before .before .before .before .before .before .before .loop in
     bytes-bad (a .bytes .now) (a .count) (l .i) (omega arith) (sym (c .before .is-component .ensures) ∙ c .if2 .left) ∙ l .inv .2
 
-mul-is-zero-from : tie.Need-mul-is-zero-from Inv-loop μ-loop
-mul-is-zero-from c = omega arith
-
 is-zero-from-requires : tie.Need-is-zero-from-requires Inv-loop μ-loop
 is-zero-from-requires c κs = (omega arith, c .before .before .before .pre)
 
@@ -87,25 +51,6 @@ returns-3 c =
 
 pub holds-path-spec : {M : Type 1} → statement M
 holds-path-spec =
-    tie.close
-    (tie.spec
-    Inv-loop
-    μ-loop
-    returns
-    loop-holds
-    mul-at
-    element-copy-out-is-component
-    add-is-component
-    element-copy-out-is-component-2
-    add-is-component-2
-    element-copy-out-is-component-3
-    add-is-component-3
-    element-copy-out-is-component-4
-    is-component-requires
-    add-i
-    loop-less
-    loop-again
-    returns-2
-    mul-is-zero-from
-    is-zero-from-requires
-    returns-3)
+    tie.close (tie.spec Inv-loop μ-loop returns loop-holds (λ c. omega arith) (λ c. omega arith) (λ c. omega arith) (λ c. omega arith) (λ c. omega arith)
+    (λ c. omega arith) (λ c. omega arith) (λ c. omega arith) (λ c κs. search needs) (λ c. omega arith) (λ c. omega arith) loop-again returns-2
+    (λ c. omega arith) is-zero-from-requires returns-3)

@@ -1,9 +1,6 @@
 -- The tests in the definition's order.
-use mathlib.Core.Path.{_≡_, refl, sym, _∙_, ap}
 use borrow.Author.Tests.{eq-eqb, ne-eqb}
 use Rattle.name_object.specs.Memory.{bare}
-use borrow.Author.Needs.{needs}
-use native.Mathlib.Omega.{arith}
 use Rattle.path.proofs.valid.is_bare.Statement.{statement}
 use Rattle.path.proofs.valid.is_bare.Tie as tie
 

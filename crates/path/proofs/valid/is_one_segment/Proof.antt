@@ -1,17 +1,10 @@
 -- A lone component is a segment where its first byte is a lead.
-use mathlib.Core.Path.{_≡_, refl, sym, _∙_, ap}
+use mathlib.Core.Path.{_∙_}
 use Rattle.path.specs.Inside.{nameIn}
 use Rattle.path.proofs.Flags.{one-is, one-isnt}
 use borrow.Author.Needs.{needs}
-use native.Mathlib.Omega.{arith}
 use Rattle.path.proofs.valid.is_one_segment.Statement.{statement}
 use Rattle.path.proofs.valid.is_one_segment.Tie as tie
-
-element-copy-out-is-lead-name-char : tie.Need-element-copy-out-is-lead-name-char
-element-copy-out-is-lead-name-char c = search needs
-
-is-lead-name-char-requires : tie.Need-is-lead-name-char-requires
-is-lead-name-char-requires c κs = search needs
 
 returns : tie.Need-returns
 returns c =
@@ -23,4 +16,4 @@ returns-2 c = one-isnt (nameIn (c .before .args .count) (c .before .args .bytes 
 pub is-one-segment-spec : {M : Type 1} → statement M
 is-one-segment-spec =
     tie.close
-    (tie.spec element-copy-out-is-lead-name-char is-lead-name-char-requires returns returns-2)
+    (tie.spec (λ c. search needs) (λ c κs. search needs) returns returns-2)

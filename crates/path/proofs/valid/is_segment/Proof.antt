@@ -1,22 +1,9 @@
 -- The tests in the definition's order.
-use mathlib.Core.Path.{_≡_, refl, sym, _∙_, ap}
+use mathlib.Core.Path.{sym, _∙_}
 use Rattle.name_object.specs.Component.{segOk}
 use borrow.Author.Needs.{needs}
-use native.Mathlib.Omega.{arith}
 use Rattle.path.proofs.valid.is_segment.Statement.{statement}
 use Rattle.path.proofs.valid.is_segment.Tie as tie
-
-is-lead-name-char-requires : tie.Need-is-lead-name-char-requires
-is-lead-name-char-requires c κs = search needs
-
-is-name-char-requires : tie.Need-is-name-char-requires
-is-name-char-requires c κs = search needs
-
-is-name-char-requires-2 : tie.Need-is-name-char-requires-2
-is-name-char-requires-2 c κs = search needs
-
-is-name-char-requires-3 : tie.Need-is-name-char-requires-3
-is-name-char-requires-3 c κs = search needs
 
 returns : tie.Need-returns
 unfolding segOk
@@ -39,13 +26,4 @@ returns-4 c = rw (sym (c .before .is-lead-name-char .ensures) ∙ c .if1 .left)
 
 pub is-segment-spec : {M : Type 1} → statement M
 is-segment-spec =
-    tie.close
-    (tie.spec
-    is-lead-name-char-requires
-    is-name-char-requires
-    is-name-char-requires-2
-    is-name-char-requires-3
-    returns
-    returns-2
-    returns-3
-    returns-4)
+    tie.close (tie.spec (λ c κs. search needs) (λ c κs. search needs) (λ c κs. search needs) (λ c κs. search needs) returns returns-2 returns-3 returns-4)

@@ -1,9 +1,8 @@
 -- Whether the bytes before j were zero, and those from j on are.
-use mathlib.Core.Path.{_≡_, refl, sym, _∙_, ap}
-use mathlib.Core.Bool.{false}
+use mathlib.Core.Path.{_≡_, refl, _∙_}
+use mathlib.Core.Bool.{false, cond}
 use Prim.Native.Nat.{_-_, _≤_}
 use lib.ListN.{drop}
-use Rattle.pkg_length.specs.Refusal.{pick}
 use Rattle.name_object.specs.Memory.{allZero}
 use Rattle.name_object.proofs.Zeros.{clean-turn, clean-end}
 use borrow.Author.Needs.{needs}
@@ -13,7 +12,7 @@ use Rattle.path.proofs.valid.is_zero_from.Tie as tie
 
 abbrev Inv-loop : tie.InvT-loop
 Inv-loop bytes from clean₀ j₀ clean j =
-    (j ≤ 128) × (pick clean (allZero (drop j bytes)) false ≡ allZero (drop from bytes))
+    (j ≤ 128) × (cond clean (allZero (drop j bytes)) false ≡ allZero (drop from bytes))
 
 abbrev μ-loop : tie.MeasureT-loop
 μ-loop bytes from clean₀ j₀ clean j =
@@ -21,18 +20,6 @@ abbrev μ-loop : tie.MeasureT-loop
 
 loop-holds : tie.Need-loop-holds Inv-loop μ-loop
 loop-holds c = (omega arith, refl)
-
-element-copy-out-is-clean : tie.Need-element-copy-out-is-clean Inv-loop μ-loop
-element-copy-out-is-clean c = search needs
-
-is-clean-requires : tie.Need-is-clean-requires Inv-loop μ-loop
-is-clean-requires c κs = search needs
-
-add-j : tie.Need-add-j Inv-loop μ-loop
-add-j c = search needs
-
-loop-less : tie.Need-loop-less Inv-loop μ-loop
-loop-less c = omega arith
 
 loop-again : tie.Need-loop-again Inv-loop μ-loop
 loop-again c =
@@ -45,14 +32,4 @@ returns c =
 
 pub is-zero-from-spec : {M : Type 1} → statement M
 is-zero-from-spec =
-    tie.close
-    (tie.spec
-    Inv-loop
-    μ-loop
-    loop-holds
-    element-copy-out-is-clean
-    is-clean-requires
-    add-j
-    loop-less
-    loop-again
-    returns)
+    tie.close (tie.spec Inv-loop μ-loop loop-holds (λ c. search needs) (λ c κs. search needs) (λ c. search needs) (λ c. omega arith) loop-again returns)

@@ -8,12 +8,9 @@ returns : tie.Need-returns
 unfolding fromRaw
 returns c = simp (lt-leb _ _ (c .if1 .taken))
 
-sub-t6 : tie.Need-sub-t6
-sub-t6 c = search needs
-
 returns-2 : tie.Need-returns-2
 unfolding fromRaw
 returns-2 c = simp (le-leb _ _ (c .if1 .left))
 
 pub from-raw-length-spec : {M : Type 1} → statement M
-from-raw-length-spec = tie.close (tie.spec returns sub-t6 returns-2)
+from-raw-length-spec = tie.close (tie.spec returns (λ c. search needs) returns-2)

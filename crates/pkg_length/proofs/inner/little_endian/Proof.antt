@@ -1,9 +1,6 @@
-use mathlib.Core.Path.{_≡_, refl, sym, _∙_}
-use Prim.Native.Nat.{_+_, _-_, _^_, _≤_, _<_}
+use Prim.Native.Nat.{_+_, _-_}
 use borrow.Author.Needs.{needs}
 use native.Mathlib.Omega.{arith}
-use lib.ListN.{take, drop}
-use Rattle.pkg_length.specs.Little.{little}
 use Rattle.pkg_length.proofs.Laws.{Spelt, spelt-none, spelt-turn, spelt-all, spelt-room}
 use Rattle.pkg_length.proofs.inner.little_endian.Statement.{statement}
 use Rattle.pkg_length.proofs.inner.little_endian.Tie as tie
@@ -20,32 +17,17 @@ abbrev μ-loop : tie.MeasureT-loop
 loop-holds : tie.Need-loop-holds Inv-loop μ-loop
 loop-holds c = spelt-none _ _ _
 
-sub-k : tie.Need-sub-k Inv-loop μ-loop
-sub-k c = search needs
-
 mul-value : tie.Need-mul-value Inv-loop μ-loop
 mul-value c =
     let a = c .before .before .before .args in
     let l = c .before .loop in
     omega (arith, spelt-room (a .input .now) (a .at) (a .n) (l .k) (l .value) (λ i. c .before .before .shared-slice-known .given i .fits) (l .inv) (omega arith) (omega arith))
 
-add-wide : tie.Need-add-wide Inv-loop μ-loop
-add-wide c = search needs
-
-shared-slice-read-wide : tie.Need-shared-slice-read-wide Inv-loop μ-loop
-shared-slice-read-wide c = search needs
-
-wide-requires : tie.Need-wide-requires Inv-loop μ-loop
-wide-requires c κs = search needs
-
 add-value : tie.Need-add-value Inv-loop μ-loop
 add-value c =
     let a = c .before .before .before .before .before .args in
     let l = c .before .before .before .loop in
     omega (arith, spelt-room (a .input .now) (a .at) (a .n) (l .k) (l .value) (λ i. c .before .shared-slice-known2 .given i .fits) (l .inv) (omega arith) (omega arith), c .before .shared-slice-known2 .given (a .at + (l .k - 1)))
-
-loop-less : tie.Need-loop-less Inv-loop μ-loop
-loop-less c = search needs
 
 loop-again : tie.Need-loop-again Inv-loop μ-loop
 loop-again c =
@@ -62,4 +44,4 @@ returns c =
 pub little-endian-spec : {M : Type 1} → statement M
 little-endian-spec =
     tie.close
-    (tie.spec Inv-loop μ-loop loop-holds sub-k mul-value add-wide shared-slice-read-wide wide-requires add-value loop-less loop-again returns)
+    (tie.spec Inv-loop μ-loop loop-holds (λ c. search needs) mul-value (λ c. search needs) (λ c. search needs) (λ c κs. search needs) add-value (λ c. search needs) loop-again returns)

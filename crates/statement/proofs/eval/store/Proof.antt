@@ -12,12 +12,6 @@ use native.Mathlib.Omega.{arith}
 use Rattle.statement.proofs.eval.store.Statement.{statement}
 use Rattle.statement.proofs.eval.store.Tie as tie
 
-enum-told : tie.Need-enum-told
-enum-told c = search needs
-
-enum-told-2 : tie.Need-enum-told-2
-enum-told-2 c = search needs
-
 shared-slice-read-wide : tie.Need-shared-slice-read-wide
 shared-slice-read-wide c =
     let c-pre = c .before .before .before .before .before .before .pre in
@@ -33,9 +27,6 @@ sub-wide c =
     let s = a .part .now in
     let acc = dest-cell-acc (a .at) s (subst (λ (d : Dest). Accepts (readDest d 0 (drop (a .at) s))) (c .before .before .before .enum-told2 .given .1) (c-pre .2)) in
     omega (arith, is-cell (getD s (a .at) 0) (cell-byte 0 (a .at) s acc))
-
-wide-requires : tie.Need-wide-requires
-wide-requires c κs = search needs
 
 write-cell-requires : tie.Need-write-cell-requires
 write-cell-requires c κs =
@@ -54,9 +45,6 @@ add-t11 c =
     let s = a .part .now in
     let acc = dest-cell-acc (a .at) s (subst (λ (d : Dest). Accepts (readDest d 0 (drop (a .at) s))) (c-enum-told2 .given .1) (c-pre .2)) in
     omega (arith, cell-inside 0 (a .at) s acc)
-
-enum-told-3 : tie.Need-enum-told-3
-enum-told-3 c = search needs
 
 shared-slice-read-if1 : tie.Need-shared-slice-read-if1
 shared-slice-read-if1 c =
@@ -98,9 +86,6 @@ sub-wide-2 c =
     let tacc = subst (λ (d : Dest). Accepts (readDest d 0 (drop (a .at) s))) (c-enum-told3 .given .1) (c-pre .2) in
     let acc = target-acc (a .at) s 0 (framed [] []) tacc (c .before .before .before .if1 .left) in
     omega (arith, is-cell (getD s (a .at) 0) (cell-byte 0 (a .at) s acc))
-
-wide-requires-2 : tie.Need-wide-requires-2
-wide-requires-2 c κs = search needs
 
 write-cell-requires-2 : tie.Need-write-cell-requires-2
 write-cell-requires-2 c κs =
@@ -146,24 +131,6 @@ returns-4 c =
 
 pub store-spec : {M : Type 1} → statement M
 store-spec =
-    tie.close
-    (tie.spec
-    enum-told
-    enum-told-2
-    shared-slice-read-wide
-    sub-wide
-    wide-requires
-    write-cell-requires
-    add-t11
-    enum-told-3
-    shared-slice-read-if1
-    add-t18
-    returns
-    shared-slice-read-wide-2
-    sub-wide-2
-    wide-requires-2
-    write-cell-requires-2
-    add-t22
-    returns-2
-    returns-3
-    returns-4)
+    tie.close (tie.spec (λ c. search needs) (λ c. search needs) shared-slice-read-wide sub-wide (λ c κs. search needs) write-cell-requires add-t11
+    (λ c. search needs) shared-slice-read-if1 add-t18 returns shared-slice-read-wide-2 sub-wide-2 (λ c κs. search needs) write-cell-requires-2 add-t22 returns-2
+    returns-3 returns-4)

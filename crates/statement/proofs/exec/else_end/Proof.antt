@@ -14,17 +14,11 @@ returns c =
     let s = a .part .now in
     else-end (a .left) 0 (a .at) s (c .if1 .taken)
 
-shared-slice-read-if2 : tie.Need-shared-slice-read-if2
-shared-slice-read-if2 c = search needs
-
 returns-2 : tie.Need-returns-2
 returns-2 c =
     let a = c .before .before .before .before .args in
     let s = a .part .now in
     else-other (a .left) 0 (a .at) s (c .before .before .if1 .left) (c .if2 .taken)
-
-add-pkg : tie.Need-add-pkg
-add-pkg c = search needs
 
 pkg-requires : tie.Need-pkg-requires
 pkg-requires c κs =
@@ -32,9 +26,6 @@ pkg-requires c κs =
     let s = a .part .now in
     let pk = else-package (a .left) (a .at) s (c .before .before .if1 .left) (c .if2 .left) (c .before .before .before .before .pre .2) in
     (omega (arith, c .before .before .if1 .left), c .before .before .before .before .pre .1, pk)
-
-add-result : tie.Need-add-result
-add-result c = search needs
 
 add-result-2 : tie.Need-add-result-2
 add-result-2 c =
@@ -51,13 +42,4 @@ returns-3 c =
 
 pub else-end-spec : {M : Type 1} → statement M
 else-end-spec =
-    tie.close
-    (tie.spec
-    returns
-    shared-slice-read-if2
-    returns-2
-    add-pkg
-    pkg-requires
-    add-result
-    add-result-2
-    returns-3)
+    tie.close (tie.spec returns (λ c. search needs) returns-2 (λ c. search needs) pkg-requires (λ c. search needs) add-result-2 returns-3)

@@ -11,24 +11,6 @@ use native.Mathlib.Omega.{arith}
 use Rattle.statement.proofs.exec.pkg.Statement.{statement}
 use Rattle.statement.proofs.exec.pkg.Tie as tie
 
-sub-pkg-length : tie.Need-sub-pkg-length
-sub-pkg-length c = search needs
-
-part-pkg-length-start : tie.Need-part-pkg-length-start
-part-pkg-length-start c = search needs
-
-part-pkg-length-end : tie.Need-part-pkg-length-end
-part-pkg-length-end c = search needs
-
-pkg-length-requires : tie.Need-pkg-length-requires
-pkg-length-requires c κs = search needs
-
-enum-told : tie.Need-enum-told
-enum-told c = search needs
-
-enum-known-w : tie.Need-enum-known-w
-enum-known-w c = search needs
-
 returns : tie.Need-returns
 returns c =
     let a = c .before .before .before .before .before .args in
@@ -47,13 +29,5 @@ returns-2 c =
 
 pub pkg-spec : {M : Type 1} → statement M
 pkg-spec =
-    tie.close
-    (tie.spec
-    sub-pkg-length
-    part-pkg-length-start
-    part-pkg-length-end
-    pkg-length-requires
-    enum-told
-    enum-known-w
-    returns
+    tie.close (tie.spec (λ c. search needs) (λ c. search needs) (λ c. search needs) (λ c κs. search needs) (λ c. search needs) (λ c. search needs) returns
     returns-2)

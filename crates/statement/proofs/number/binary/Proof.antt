@@ -3,51 +3,6 @@ use borrow.Author.Needs.{needs}
 use Rattle.statement.proofs.number.binary.Statement.{statement}
 use Rattle.statement.proofs.number.binary.Tie as tie
 
-enum-told : tie.Need-enum-told
-enum-told c = search needs
-
-wrapping-add-u64-requires : tie.Need-wrapping-add-u64-requires
-wrapping-add-u64-requires c κs = search needs
-
-enum-told-2 : tie.Need-enum-told-2
-enum-told-2 c = search needs
-
-enum-told-3 : tie.Need-enum-told-3
-enum-told-3 c = search needs
-
-both-requires : tie.Need-both-requires
-both-requires c κs = search needs
-
-truth-requires : tie.Need-truth-requires
-truth-requires c κs = search needs
-
-enum-told-4 : tie.Need-enum-told-4
-enum-told-4 c = search needs
-
-either-requires : tie.Need-either-requires
-either-requires c κs = search needs
-
-truth-requires-2 : tie.Need-truth-requires-2
-truth-requires-2 c κs = search needs
-
-enum-told-5 : tie.Need-enum-told-5
-enum-told-5 c = search needs
-
-truth-requires-3 : tie.Need-truth-requires-3
-truth-requires-3 c κs = search needs
-
-enum-told-6 : tie.Need-enum-told-6
-enum-told-6 c = search needs
-
-truth-requires-4 : tie.Need-truth-requires-4
-truth-requires-4 c κs = search needs
-
-enum-told-7 : tie.Need-enum-told-7
-enum-told-7 c = search needs
-
-truth-requires-5 : tie.Need-truth-requires-5
-truth-requires-5 c κs = search needs
-
 returns : tie.Need-returns
 returns c = rw (c .before .enum-told .given .1, c .wrapping-add-u64 .ensures)
 
@@ -72,27 +27,6 @@ returns-7 c = rw (c .before .enum-told7 .given .1, c .truth5 .ensures)
 
 pub binary-spec : {M : Type 1} → statement M
 binary-spec =
-    tie.close
-    (tie.spec
-    enum-told
-    wrapping-add-u64-requires
-    enum-told-2
-    enum-told-3
-    both-requires
-    truth-requires
-    enum-told-4
-    either-requires
-    truth-requires-2
-    enum-told-5
-    truth-requires-3
-    enum-told-6
-    truth-requires-4
-    enum-told-7
-    truth-requires-5
-    returns
-    returns-2
-    returns-3
-    returns-4
-    returns-5
-    returns-6
-    returns-7)
+    tie.close (tie.spec (λ c. search needs) (λ c κs. search needs) (λ c. search needs) (λ c. search needs) (λ c κs. search needs) (λ c κs. search needs)
+    (λ c. search needs) (λ c κs. search needs) (λ c κs. search needs) (λ c. search needs) (λ c κs. search needs) (λ c. search needs) (λ c κs. search needs)
+    (λ c. search needs) (λ c κs. search needs) returns returns-2 returns-3 returns-4 returns-5 returns-6 returns-7)

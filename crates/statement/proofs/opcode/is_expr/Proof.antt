@@ -4,33 +4,6 @@ use borrow.Author.Needs.{needs}
 use Rattle.statement.proofs.opcode.is_expr.Statement.{statement}
 use Rattle.statement.proofs.opcode.is_expr.Tie as tie
 
-term-op-requires : tie.Need-term-op-requires
-term-op-requires c κs = search needs
-
-enum-told : tie.Need-enum-told
-enum-told c = search needs
-
-enum-told-2 : tie.Need-enum-told-2
-enum-told-2 c = search needs
-
-enum-told-3 : tie.Need-enum-told-3
-enum-told-3 c = search needs
-
-enum-told-4 : tie.Need-enum-told-4
-enum-told-4 c = search needs
-
-enum-told-5 : tie.Need-enum-told-5
-enum-told-5 c = search needs
-
-enum-told-6 : tie.Need-enum-told-6
-enum-told-6 c = search needs
-
-enum-told-7 : tie.Need-enum-told-7
-enum-told-7 c = search needs
-
-enum-told-8 : tie.Need-enum-told-8
-enum-told-8 c = search needs
-
 returns : tie.Need-returns
 returns c = rw (sym (c .before .before .term-op .ensures) ∙ c .enum-told .given .1)
 
@@ -57,22 +30,5 @@ returns-8 c = rw (sym (c .before .before .term-op .ensures) ∙ c .enum-told8 .g
 
 pub is-expr-spec : {M : Type 1} → statement M
 is-expr-spec =
-    tie.close
-    (tie.spec
-    term-op-requires
-    enum-told
-    enum-told-2
-    enum-told-3
-    enum-told-4
-    enum-told-5
-    enum-told-6
-    enum-told-7
-    enum-told-8
-    returns
-    returns-2
-    returns-3
-    returns-4
-    returns-5
-    returns-6
-    returns-7
-    returns-8)
+    tie.close (tie.spec (λ c κs. search needs) (λ c. search needs) (λ c. search needs) (λ c. search needs) (λ c. search needs) (λ c. search needs)
+    (λ c. search needs) (λ c. search needs) (λ c. search needs) returns returns-2 returns-3 returns-4 returns-5 returns-6 returns-7 returns-8)

@@ -8,15 +8,9 @@ use native.Mathlib.Omega.{arith}
 use Rattle.statement.proofs.opcode.term_op.Statement.{statement}
 use Rattle.statement.proofs.opcode.term_op.Tie as tie
 
-is-cell-requires : tie.Need-is-cell-requires
-is-cell-requires c κs = search needs
-
 sub-wide : tie.Need-sub-wide
 sub-wide c =
     omega (arith, is-cell (c .before .before .args .b) (sym (c .before .is-cell .ensures) ∙ c .if1 .taken))
-
-wide-requires : tie.Need-wide-requires
-wide-requires c κs = search needs
 
 returns : tie.Need-returns
 unfolding termOp look
@@ -122,28 +116,5 @@ returns-20 c =
 
 pub term-op-spec : {M : Type 1} → statement M
 term-op-spec =
-    tie.close
-    (tie.spec
-    is-cell-requires
-    sub-wide
-    wide-requires
-    returns
-    returns-2
-    returns-3
-    returns-4
-    returns-5
-    returns-6
-    returns-7
-    returns-8
-    returns-9
-    returns-10
-    returns-11
-    returns-12
-    returns-13
-    returns-14
-    returns-15
-    returns-16
-    returns-17
-    returns-18
-    returns-19
-    returns-20)
+    tie.close (tie.spec (λ c κs. search needs) sub-wide (λ c κs. search needs) returns returns-2 returns-3 returns-4 returns-5 returns-6 returns-7 returns-8
+    returns-9 returns-10 returns-11 returns-12 returns-13 returns-14 returns-15 returns-16 returns-17 returns-18 returns-19 returns-20)

@@ -6,18 +6,6 @@ use borrow.Author.Needs.{needs}
 use Rattle.statement.proofs.read.expression_opcode.Statement.{statement}
 use Rattle.statement.proofs.read.expression_opcode.Tie as tie
 
-shared-slice-read-is-expr : tie.Need-shared-slice-read-is-expr
-shared-slice-read-is-expr c = search needs
-
-is-expr-requires : tie.Need-is-expr-requires
-is-expr-requires c κs = search needs
-
-term-arg-requires : tie.Need-term-arg-requires
-term-arg-requires c κs = search needs
-
-add-t8 : tie.Need-add-t8
-add-t8 c = search needs
-
 returns : tie.Need-returns
 returns c =
     let c-pre = c .before .before .before .before .before .pre in
@@ -31,11 +19,4 @@ returns-2 c =
 
 pub expression-opcode-spec : {M : Type 1} → statement M
 expression-opcode-spec =
-    tie.close
-    (tie.spec
-    shared-slice-read-is-expr
-    is-expr-requires
-    term-arg-requires
-    add-t8
-    returns
-    returns-2)
+    tie.close (tie.spec (λ c. search needs) (λ c κs. search needs) (λ c κs. search needs) (λ c. search needs) returns returns-2)

@@ -11,27 +11,6 @@ use native.Mathlib.Omega.{arith}
 use Rattle.statement.proofs.read.pkg.Statement.{statement}
 use Rattle.statement.proofs.read.pkg.Tie as tie
 
-sub-pkg-length : tie.Need-sub-pkg-length
-sub-pkg-length c = search needs
-
-part-pkg-length-start : tie.Need-part-pkg-length-start
-part-pkg-length-start c = search needs
-
-part-pkg-length-end : tie.Need-part-pkg-length-end
-part-pkg-length-end c = search needs
-
-pkg-length-requires : tie.Need-pkg-length-requires
-pkg-length-requires c κs = search needs
-
-enum-known-w : tie.Need-enum-known-w
-enum-known-w c = search needs
-
-numbered-requires : tie.Need-numbered-requires
-numbered-requires c κs = search needs
-
-add-place : tie.Need-add-place
-add-place c = search needs
-
 add-place-2 : tie.Need-add-place-2
 add-place-2 c =
     let a = c .before .before .before .before .before .before .before .before .args in
@@ -51,12 +30,6 @@ returns c =
     let n = c .before .before .before .numbered .ensures in
     let k = package-no t (a .base + a .at) short _ _ (sym (ap pkgSaid (z .1)) ∙ c .before .before .before .before .before .before .before .pkg-length .ensures ∙ ap pkgLength (tail (a .part .now) (a .at))) in
     rw (ap (λ (x : Refusal). x .1) n) (rw (sym (ap (λ (x : Refusal). x .0) n) ∙ c .if1 .taken) at (k .is))
-
-enum-known-w-2 : tie.Need-enum-known-w-2
-enum-known-w-2 c = search needs
-
-add-t20 : tie.Need-add-t20
-add-t20 c = search needs
 
 returns-2 : tie.Need-returns-2
 returns-2 c =
@@ -88,19 +61,5 @@ returns-4 c =
 
 pub pkg-spec : {M : Type 1} → statement M
 pkg-spec =
-    tie.close
-    (tie.spec
-    sub-pkg-length
-    part-pkg-length-start
-    part-pkg-length-end
-    pkg-length-requires
-    enum-known-w
-    numbered-requires
-    add-place
-    add-place-2
-    returns
-    enum-known-w-2
-    add-t20
-    returns-2
-    returns-3
-    returns-4)
+    tie.close (tie.spec (λ c. search needs) (λ c. search needs) (λ c. search needs) (λ c κs. search needs) (λ c. search needs) (λ c κs. search needs)
+    (λ c. search needs) add-place-2 returns (λ c. search needs) (λ c. search needs) returns-2 returns-3 returns-4)

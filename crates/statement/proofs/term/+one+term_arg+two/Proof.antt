@@ -1,10 +1,9 @@
 -- Each return is one law of Reaches. Calls fall by the depths left alone.
-use mathlib.Core.Path.{refl, sym, _∙_, ap}
+use mathlib.Core.Path.{refl, sym, _∙_}
 use Prim.Native.Nat.{ℕ, _<_, _+_, _-_, _*_}
 use lib.ListN.{drop}
 use Rattle.statement.specs.Reading.{step}
 use Rattle.statement.specs.Refusal.{readBytes, readCell, readOne, readTwo, readTerm, oneOf, twoOf}
-use Rattle.statement.specs.Said.{reached}
 use Rattle.statement.proofs.Reaches as reaches
 use borrow.Author.Needs.{needs}
 use native.Mathlib.Omega.{arith}

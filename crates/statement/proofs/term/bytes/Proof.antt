@@ -5,22 +5,13 @@ use native.Mathlib.Omega.{arith}
 use Rattle.statement.proofs.term.bytes.Statement.{statement}
 use Rattle.statement.proofs.term.bytes.Tie as tie
 
-sub-if1 : tie.Need-sub-if1
-sub-if1 c = search needs
-
-add-t9 : tie.Need-add-t9
-add-t9 c = search needs
-
 returns : tie.Need-returns
 returns c =
     let a = c .before .args in bytes-short (a .base) (a .at) (a .n) (a .part .now) (omega arith) (omega arith)
-
-add-t5 : tie.Need-add-t5
-add-t5 c = search needs
 
 returns-2 : tie.Need-returns-2
 returns-2 c =
     let a = c .before .args in bytes-there (a .base) (a .at) (a .n) (a .part .now) (omega arith) (omega arith)
 
 pub bytes-spec : {M : Type 1} → statement M
-bytes-spec = tie.close (tie.spec sub-if1 add-t9 returns add-t5 returns-2)
+bytes-spec = tie.close (tie.spec (λ c. search needs) (λ c. search needs) returns (λ c. search needs) returns-2)

@@ -6,24 +6,9 @@ use borrow.Author.Needs.{needs}
 use Rattle.statement.proofs.term.cell.Statement.{statement}
 use Rattle.statement.proofs.term.cell.Tie as tie
 
-add-t6 : tie.Need-add-t6
-add-t6 c = search needs
-
 returns : tie.Need-returns
 returns c =
     let a = c .before .before .args in cell-end (a .base + a .at) (a .at) (a .part .now) (c .if1 .taken)
-
-shared-slice-read-is-cell : tie.Need-shared-slice-read-is-cell
-shared-slice-read-is-cell c = search needs
-
-is-cell-requires : tie.Need-is-cell-requires
-is-cell-requires c κs = search needs
-
-add-t11 : tie.Need-add-t11
-add-t11 c = search needs
-
-add-t12 : tie.Need-add-t12
-add-t12 c = search needs
 
 returns-2 : tie.Need-returns-2
 returns-2 c =
@@ -35,13 +20,4 @@ returns-3 c =
 
 pub cell-spec : {M : Type 1} → statement M
 cell-spec =
-    tie.close
-    (tie.spec
-    add-t6
-    returns
-    shared-slice-read-is-cell
-    is-cell-requires
-    add-t11
-    add-t12
-    returns-2
-    returns-3)
+    tie.close (tie.spec (λ c. search needs) returns (λ c. search needs) (λ c κs. search needs) (λ c. search needs) (λ c. search needs) returns-2 returns-3)

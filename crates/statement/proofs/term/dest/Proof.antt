@@ -5,21 +5,6 @@ use borrow.Author.Needs.{needs}
 use Rattle.statement.proofs.term.dest.Statement.{statement}
 use Rattle.statement.proofs.term.dest.Tie as tie
 
-enum-told : tie.Need-enum-told
-enum-told c = search needs
-
-enum-told-2 : tie.Need-enum-told-2
-enum-told-2 c = search needs
-
-cell-requires : tie.Need-cell-requires
-cell-requires c κs = search needs
-
-enum-told-3 : tie.Need-enum-told-3
-enum-told-3 c = search needs
-
-target-requires : tie.Need-target-requires
-target-requires c κs = search needs
-
 returns : tie.Need-returns
 returns c =
     let a = c .before .before .before .args in rw (c .enum-told .given .1) (dest-none (a .base + a .at) (a .at) (a .part .now))
@@ -33,13 +18,4 @@ returns-3 c = rw (c .before .enum-told3 .given .1) (c .target .ensures)
 
 pub dest-spec : {M : Type 1} → statement M
 dest-spec =
-    tie.close
-    (tie.spec
-    enum-told
-    enum-told-2
-    cell-requires
-    enum-told-3
-    target-requires
-    returns
-    returns-2
-    returns-3)
+    tie.close (tie.spec (λ c. search needs) (λ c. search needs) (λ c κs. search needs) (λ c. search needs) (λ c κs. search needs) returns returns-2 returns-3)

@@ -8,24 +8,6 @@ use native.Mathlib.Omega.{arith}
 use Rattle.table.proofs.inner.bind.Statement.{statement}
 use Rattle.table.proofs.inner.bind.Tie as tie
 
-mul-table : tie.Need-mul-table
-mul-table c = search needs
-
-slice-read-table : tie.Need-slice-read-table
-slice-read-table c = search needs
-
-add-table : tie.Need-add-table
-add-table c = search needs
-
-slice-write-table : tie.Need-slice-write-table
-slice-write-table c = search needs
-
-sub-make-room : tie.Need-sub-make-room
-sub-make-room c = search needs
-
-part-make-room-start : tie.Need-part-make-room-start
-part-make-room-start c = search needs
-
 part-make-room-end : tie.Need-part-make-room-end
 part-make-room-end c =
     let ws = c .before .before .args .table .now in
@@ -53,15 +35,5 @@ returns c =
 
 pub bind-spec : {M : Type 1} → statement M
 bind-spec =
-    tie.close
-    (tie.spec
-    mul-table
-    slice-read-table
-    add-table
-    slice-write-table
-    sub-make-room
-    part-make-room-start
-    part-make-room-end
-    make-room-requires
-    same-length
-    returns)
+    tie.close (tie.spec (λ c. search needs) (λ c. search needs) (λ c. search needs) (λ c. search needs) (λ c. search needs) (λ c. search needs)
+    part-make-room-end make-room-requires same-length returns)

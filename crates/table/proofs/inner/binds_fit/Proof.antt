@@ -20,24 +20,9 @@ Inv-loop bindings from n made end lo₀ i₀ lo i =
 abbrev μ-loop : tie.MeasureT-loop
 μ-loop bindings from n made end lo₀ i₀ lo i = end - i
 
-sub-if1 : tie.Need-sub-if1 Inv-loop μ-loop
-sub-if1 c = search needs
-
 returns : tie.Need-returns Inv-loop μ-loop
 returns c =
     let a = c .before .before .args in sym (binds-short (a .made) (a .n) (a .from) (a .bindings .now) (c .if1 .taken))
-
-add-end : tie.Need-add-end Inv-loop μ-loop
-add-end c = search needs
-
-loop-holds : tie.Need-loop-holds Inv-loop μ-loop
-loop-holds c = search needs
-
-mul-seg : tie.Need-mul-seg Inv-loop μ-loop
-mul-seg c = search needs
-
-shared-slice-read-seg : tie.Need-shared-slice-read-seg Inv-loop μ-loop
-shared-slice-read-seg c = search needs
 
 returns-2 : tie.Need-returns-2 Inv-loop μ-loop
 returns-2 c =
@@ -47,12 +32,6 @@ returns-2 c =
 
 seg-ok-requires : tie.Need-seg-ok-requires Inv-loop μ-loop
 seg-ok-requires c κs = omega (arith, c .before .shared-slice-known2 .given (c .before .before .before .loop .i))
-
-mul-if4 : tie.Need-mul-if4 Inv-loop μ-loop
-mul-if4 c = search needs
-
-shared-slice-read-if4 : tie.Need-shared-slice-read-if4 Inv-loop μ-loop
-shared-slice-read-if4 c = search needs
 
 returns-3 : tie.Need-returns-3 Inv-loop μ-loop
 returns-3 c =
@@ -75,12 +54,6 @@ returns-4 c =
     let a = c .before .before .before .before .before .before .before .before .args in
     sym (binds-held (a .made) (a .n) (a .from) (a .bindings .now) (omega arith) (omega arith) ∙ sym (l .inv .3) ∙ rising-bad (a .made) (l .lo) (l .i) (a .from + a .n) (a .bindings .now) (omega arith) (omega arith) (c .before .before .if2 .left) (sym (c .before .seg-ok .ensures) ∙ c .if3 .left))
 
-add-i : tie.Need-add-i Inv-loop μ-loop
-add-i c = search needs
-
-loop-less : tie.Need-loop-less Inv-loop μ-loop
-loop-less c = search needs
-
 loop-again : tie.Need-loop-again Inv-loop μ-loop
 loop-again c =
     let l = c .before .before .before .before .before .before .before .loop in
@@ -95,24 +68,5 @@ returns-5 c =
 
 pub binds-fit-spec : {M : Type 1} → statement M
 binds-fit-spec =
-    tie.close
-    (tie.spec
-    Inv-loop
-    μ-loop
-    sub-if1
-    returns
-    add-end
-    loop-holds
-    mul-seg
-    shared-slice-read-seg
-    returns-2
-    seg-ok-requires
-    mul-if4
-    shared-slice-read-if4
-    returns-3
-    add-lo
-    returns-4
-    add-i
-    loop-less
-    loop-again
-    returns-5)
+    tie.close (tie.spec Inv-loop μ-loop (λ c. search needs) returns (λ c. search needs) (λ c. search needs) (λ c. search needs) (λ c. search needs) returns-2
+    seg-ok-requires (λ c. search needs) (λ c. search needs) returns-3 add-lo returns-4 (λ c. search needs) (λ c. search needs) loop-again returns-5)

@@ -21,12 +21,6 @@ slice-aggregate-find-spot-in c =
     let ws = c .before .before .before .before .args .table .now in
     sym (length-ls limits (omega arith) ws (c .before .before .before .before .pre .0))
 
-sub-find-spot-in : tie.Need-sub-find-spot-in
-sub-find-spot-in c = search needs
-
-part-find-spot-in-start : tie.Need-part-find-spot-in-start
-part-find-spot-in-start c = search needs
-
 part-find-spot-in-end : tie.Need-part-find-spot-in-end
 part-find-spot-in-end c =
     let ws = c .before .before .before .before .args .table .now in
@@ -42,12 +36,4 @@ returns-2 c = c .find-spot-in .ensures
 
 pub find-spot-spec : {M : Type 1} → statement M
 find-spot-spec =
-    tie.close
-    (tie.spec
-    returns
-    slice-aggregate-find-spot-in
-    sub-find-spot-in
-    part-find-spot-in-start
-    part-find-spot-in-end
-    find-spot-in-requires
-    returns-2)
+    tie.close (tie.spec returns slice-aggregate-find-spot-in (λ c. search needs) (λ c. search needs) part-find-spot-in-end find-spot-in-requires returns-2)

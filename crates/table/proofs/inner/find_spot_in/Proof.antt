@@ -10,18 +10,12 @@ use native.Mathlib.Omega.{arith}
 use Rattle.table.proofs.inner.find_spot_in.Statement.{statement}
 use Rattle.table.proofs.inner.find_spot_in.Tie as tie
 
-sub-n : tie.Need-sub-n
-sub-n c = search needs
-
 slice-aggregate-seek : tie.Need-slice-aggregate-seek
 slice-aggregate-seek c =
     let p = c .before .before .before .before .args .path .now in sym (length-take-le (length p - 1) p (omega arith))
 
 seek-requires : tie.Need-seek-requires
 seek-requires c κs = omega (arith, c .before .before .before .before .pre .0)
-
-enum-known-found : tie.Need-enum-known-found
-enum-known-found c = search needs
 
 mul-count : tie.Need-mul-count
 mul-count c =
@@ -35,33 +29,12 @@ shared-slice-read-count c =
     let c9 = c4 .before .before .before .before .before in
     spot-inside (c9 .args .levels .now) (c9 .args .bindings .now) (c9 .args .path .now) (c9 .pre .1) (c4 .seek .result) (c4 .seek .ensures) (c .before .before .found .given .0 .0) (c .before .before .found .given .0 .1 .0) (c .before .before .found .given .1)
 
-mul-find-slot : tie.Need-mul-find-slot
-mul-find-slot c = search needs
-
-shared-slice-read-find-slot : tie.Need-shared-slice-read-find-slot
-shared-slice-read-find-slot c = search needs
-
 find-slot-requires : tie.Need-find-slot-requires
 find-slot-requires c κs =
     let c3 = c .before .before .before in
     let c5 = c3 .before .before in
     let c10 = c5 .before .before .before .before .before in
     rw (spot-from (c10 .args .levels .now) (c10 .args .bindings .now) (c10 .args .path .now) (c10 .pre .1) (c5 .seek .result) (c5 .seek .ensures) (c3 .found .given .0 .0) (c3 .found .given .0 .1 .0) (c3 .found .given .1)) (c10 .pre .2 (c3 .found .given .0 .0))
-
-enum-known-seen : tie.Need-enum-known-seen
-enum-known-seen c = search needs
-
-enum-known-seen-2 : tie.Need-enum-known-seen-2
-enum-known-seen-2 c = search needs
-
-enum-told : tie.Need-enum-told
-enum-told c = search needs
-
-sub-t24 : tie.Need-sub-t24
-sub-t24 c = search needs
-
-enum-known-found-2 : tie.Need-enum-known-found-2
-enum-known-found-2 c = search needs
 
 returns : tie.Need-returns
 returns c =
@@ -96,23 +69,6 @@ returns-4 c =
 
 pub find-spot-in-spec : {M : Type 1} → statement M
 find-spot-in-spec =
-    tie.close
-    (tie.spec
-    sub-n
-    slice-aggregate-seek
-    seek-requires
-    enum-known-found
-    mul-count
-    shared-slice-read-count
-    mul-find-slot
-    shared-slice-read-find-slot
-    find-slot-requires
-    enum-known-seen
-    enum-known-seen-2
-    enum-told
-    sub-t24
-    enum-known-found-2
-    returns
-    returns-2
-    returns-3
-    returns-4)
+    tie.close (tie.spec (λ c. search needs) slice-aggregate-seek seek-requires (λ c. search needs) mul-count shared-slice-read-count (λ c. search needs)
+    (λ c. search needs) find-slot-requires (λ c. search needs) (λ c. search needs) (λ c. search needs) (λ c. search needs) (λ c. search needs) returns returns-2
+    returns-3 returns-4)

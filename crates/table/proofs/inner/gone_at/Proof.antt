@@ -4,9 +4,6 @@ use borrow.Author.Needs.{needs}
 use Rattle.table.proofs.inner.gone_at.Statement.{statement}
 use Rattle.table.proofs.inner.gone_at.Tie as tie
 
-add-if1 : tie.Need-add-if1
-add-if1 c = search needs
-
 returns : tie.Need-returns
 returns c = simp (eq-eqb _ _ (c .if1 .taken))
 
@@ -14,4 +11,4 @@ returns-2 : tie.Need-returns-2
 returns-2 c = simp (ne-eqb _ _ (c .if1 .left))
 
 pub gone-at-spec : {M : Type 1} → statement M
-gone-at-spec = tie.close (tie.spec add-if1 returns returns-2)
+gone-at-spec = tie.close (tie.spec (λ c. search needs) returns returns-2)

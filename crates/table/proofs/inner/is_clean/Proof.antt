@@ -1,7 +1,4 @@
 -- The tests in the definition's order.
-use mathlib.Core.Path.{_≡_, refl, sym, _∙_, ap}
-use borrow.Author.Needs.{needs}
-use native.Mathlib.Omega.{arith}
 use Rattle.table.proofs.inner.is_clean.Statement.{statement}
 use Rattle.table.proofs.inner.is_clean.Tie as tie
 

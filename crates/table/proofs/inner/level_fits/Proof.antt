@@ -28,9 +28,6 @@ unfolding levelOk
 returns-3 c =
     simp (lt-ltb _ _ (pos (c .before .before .if1 .left)), le-leb _ _ (c .before .if2 .left), lt-leb _ _ (c .if3 .taken))
 
-name-fits-requires : tie.Need-name-fits-requires
-name-fits-requires c κs = search needs
-
 returns-4 : tie.Need-returns-4
 unfolding levelOk
 returns-4 c =
@@ -53,4 +50,4 @@ returns-6 c =
 pub level-fits-spec : {M : Type 1} → statement M
 level-fits-spec =
     tie.close
-    (tie.spec returns returns-2 returns-3 name-fits-requires returns-4 returns-5 returns-6)
+    (tie.spec returns returns-2 returns-3 (λ c κs. search needs) returns-4 returns-5 returns-6)

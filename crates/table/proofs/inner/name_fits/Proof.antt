@@ -5,9 +5,6 @@ use borrow.Author.Needs.{needs}
 use Rattle.table.proofs.inner.name_fits.Statement.{statement}
 use Rattle.table.proofs.inner.name_fits.Tie as tie
 
-seg-ok-requires : tie.Need-seg-ok-requires
-seg-ok-requires c κs = search needs
-
 returns : tie.Need-returns
 returns c = simp (eq-eqb _ _ (c .before .if1 .taken), eq-eqb _ _ (c .if2 .taken))
 
@@ -23,4 +20,4 @@ returns-4 c =
     simp (ne-eqb _ _ (c .before .before .if1 .left), sym (c .before .seg-ok .ensures) ∙ c .if3 .left)
 
 pub name-fits-spec : {M : Type 1} → statement M
-name-fits-spec = tie.close (tie.spec seg-ok-requires returns returns-2 returns-3 returns-4)
+name-fits-spec = tie.close (tie.spec (λ c κs. search needs) returns returns-2 returns-3 returns-4)

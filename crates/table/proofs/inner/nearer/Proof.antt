@@ -6,15 +6,6 @@ use borrow.Author.Needs.{needs}
 use Rattle.table.proofs.inner.nearer.Statement.{statement}
 use Rattle.table.proofs.inner.nearer.Tie as tie
 
-find-slot-requires : tie.Need-find-slot-requires
-find-slot-requires c κs = search needs
-
-enum-known-seen : tie.Need-enum-known-seen
-enum-known-seen c = search needs
-
-enum-told : tie.Need-enum-told
-enum-told c = search needs
-
 returns : tie.Need-returns
 returns c =
     ap (λ (q : Slot). nearerOf (c .before .before .before .before .before .args .depth) q (c .before .before .before .before .before .args .out)) (sym (c .before .seen .given .1) ∙ c .before .before .before .find-slot .ensures)
@@ -24,4 +15,4 @@ returns-2 c =
     ap (λ (q : Slot). nearerOf (c .before .before .before .before .args .depth) q (c .before .before .before .before .args .out)) (sym (c .enum-told .given .1) ∙ c .before .before .find-slot .ensures)
 
 pub nearer-spec : {M : Type 1} → statement M
-nearer-spec = tie.close (tie.spec find-slot-requires enum-known-seen enum-told returns returns-2)
+nearer-spec = tie.close (tie.spec (λ c κs. search needs) (λ c. search needs) (λ c. search needs) returns returns-2)

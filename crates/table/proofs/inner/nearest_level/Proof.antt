@@ -1,11 +1,10 @@
 -- What is left of the pass finds what the whole pass does.
-use mathlib.Core.Path.{_≡_, refl, ap, sym, _∙_}
-use mathlib.Core.Bool.{Bool}
+use mathlib.Core.Path.{_≡_, ap, _∙_}
+use mathlib.Core.Bool.{Bool, cond}
 use mathlib.Core.Logic.{⊎-elim}
 use Prim.Native.Nat.{_-_, _≤_}
 use lib.Dec.{eqb}
 use lib.ListN.{length, drop, getD}
-use Rattle.pkg_length.specs.Refusal.{pick}
 use Rattle.table.specs.Layout.{rankOf, segOf}
 use Rattle.table.specs.Inside.{nearLevelIn}
 use Rattle.table.proofs.NearLevels.{reopen-low, pick-low, turn-stop, turn-child, turn-deep, turn-end}
@@ -21,44 +20,17 @@ Inv-loop levels scope seg depth₀ best₀ k₀ depth best k =
 abbrev μ-loop : tie.MeasureT-loop
 μ-loop levels scope seg depth₀ best₀ k₀ depth best k = length levels - k
 
-loop-holds : tie.Need-loop-holds Inv-loop μ-loop
-loop-holds c = search needs
-
-mul-w : tie.Need-mul-w Inv-loop μ-loop
-mul-w c = search needs
-
-shared-slice-read-w : tie.Need-shared-slice-read-w Inv-loop μ-loop
-shared-slice-read-w c = search needs
-
 returns : tie.Need-returns Inv-loop μ-loop
 returns c =
     let l = c .before .before .before .loop in
     let a = c .before .before .before .before .before .before .args in
     turn-stop (a .seg) (a .scope .now) (a .levels .now) (l .depth) (l .best) (l .k) (omega arith) (c .if1 .taken) ∙ l .inv .3
 
-reopen-requires : tie.Need-reopen-requires Inv-loop μ-loop
-reopen-requires c κs = search needs
-
 add-if2 : tie.Need-add-if2 Inv-loop μ-loop
 add-if2 c =
     let l = c .before .before .before .before .loop in
     let a = c .before .before .before .before .before .before .before .args in
     omega (arith, c .reopen .ensures, reopen-low (l .depth) (rankOf (getD (a .levels .now) (l .k) 0)) (omega (arith, c .before .if1 .left)), l .inv .1)
-
-choose-requires : tie.Need-choose-requires Inv-loop μ-loop
-choose-requires c κs = search needs
-
-goes-on-requires : tie.Need-goes-on-requires Inv-loop μ-loop
-goes-on-requires c κs = search needs
-
-choose-requires-2 : tie.Need-choose-requires-2 Inv-loop μ-loop
-choose-requires-2 c κs = search needs
-
-add-k : tie.Need-add-k Inv-loop μ-loop
-add-k c = search needs
-
-loop-less : tie.Need-loop-less Inv-loop μ-loop
-loop-less c = search needs
 
 loop-again : tie.Need-loop-again Inv-loop μ-loop
 loop-again c =
@@ -73,7 +45,7 @@ loop-again c =
       rw (w .4, w .3 .ensures) (pick-low (w .2 .result) (rankOf (getD (a .levels .now) (l .k) 0)) (c .before .reopen .result) 524288 rank d),
       rw (w .5, w .1 .ensures) (pick-low (eqb (segOf (getD (a .levels .now) (l .k) 0)) (a .seg)) (c .before .reopen .result) (l .best) 524288 d (l .inv .2)),
       rw (w .4, w .5) (turn-child (a .seg) (a .scope .now) (a .levels .now) (l .depth) (l .best) (l .k) (omega arith) (c .before .before .if1 .left) (c .before .reopen .result) (c .before .reopen .ensures) (w .0 .taken) _ _
-          (w .3 .ensures ∙ ap (λ (t : Bool). pick t (rankOf (getD (a .levels .now) (l .k) 0)) (c .before .reopen .result)) (w .2 .ensures)) (w .1 .ensures) ∙ l .inv .3),
+          (w .3 .ensures ∙ ap (λ (t : Bool). cond t (rankOf (getD (a .levels .now) (l .k) 0)) (c .before .reopen .result)) (w .2 .ensures)) (w .1 .ensures) ∙ l .inv .3),
     ))
     (λ w. (
       omega arith,
@@ -91,20 +63,5 @@ returns-2 c =
 
 pub nearest-level-spec : {M : Type 1} → statement M
 nearest-level-spec =
-    tie.close
-    (tie.spec
-    Inv-loop
-    μ-loop
-    loop-holds
-    mul-w
-    shared-slice-read-w
-    returns
-    reopen-requires
-    add-if2
-    choose-requires
-    goes-on-requires
-    choose-requires-2
-    add-k
-    loop-less
-    loop-again
-    returns-2)
+    tie.close (tie.spec Inv-loop μ-loop (λ c. search needs) (λ c. search needs) (λ c. search needs) returns (λ c κs. search needs) add-if2
+    (λ c κs. search needs) (λ c κs. search needs) (λ c κs. search needs) (λ c. search needs) (λ c. search needs) loop-again returns-2)

@@ -30,29 +30,11 @@ returns c =
     let a = c .before .before .before .before .before .before .args in
     turn-out (a .seg) (a .scope .now) (a .levels .now) (a .bindings .now) (l .j) (l .k) (l .m) (l .best) (omega arith) (c .if1 .taken) ∙ l .inv .3
 
-mul-w : tie.Need-mul-w Inv-loop μ-loop
-mul-w c = search needs
-
-shared-slice-read-w : tie.Need-shared-slice-read-w Inv-loop μ-loop
-shared-slice-read-w c = search needs
-
 returns-2 : tie.Need-returns-2 Inv-loop μ-loop
 returns-2 c =
     let l = c .before .before .before .before .loop in
     let a = c .before .before .before .before .before .before .before .before .args in
     turn-stop (a .seg) (a .scope .now) (a .levels .now) (a .bindings .now) (l .j) (l .k) (l .m) (l .best) (omega arith) (omega arith) (c .if2 .taken) ∙ l .inv .3
-
-add-if3 : tie.Need-add-if3 Inv-loop μ-loop
-add-if3 c = search needs
-
-mul-want : tie.Need-mul-want Inv-loop μ-loop
-mul-want c = search needs
-
-shared-slice-read-want : tie.Need-shared-slice-read-want Inv-loop μ-loop
-shared-slice-read-want c = search needs
-
-add-j : tie.Need-add-j Inv-loop μ-loop
-add-j c = search needs
 
 nearer-requires : tie.Need-nearer-requires Inv-loop μ-loop
 nearer-requires c κs =
@@ -71,12 +53,6 @@ add-m c =
     let l = c .before .before .before .before .before .loop in
     let a = c .before .before .before .before .before .before .before .before .before .args in
     omega (arith, l .inv .2, counts-low (a .levels .now) (l .k) (c .before .before .before .before .before .before .before .before .before .pre .0))
-
-add-k : tie.Need-add-k Inv-loop μ-loop
-add-k c = search needs
-
-loop-less : tie.Need-loop-less Inv-loop μ-loop
-loop-less c = search needs
 
 loop-again : tie.Need-loop-again Inv-loop μ-loop
 loop-again c =
@@ -97,23 +73,5 @@ returns-4 c =
 
 pub nearest-value-spec : {M : Type 1} → statement M
 nearest-value-spec =
-    tie.close
-    (tie.spec
-    Inv-loop
-    μ-loop
-    loop-holds
-    returns
-    mul-w
-    shared-slice-read-w
-    returns-2
-    add-if3
-    mul-want
-    shared-slice-read-want
-    add-j
-    nearer-requires
-    returns-3
-    add-m
-    add-k
-    loop-less
-    loop-again
-    returns-4)
+    tie.close (tie.spec Inv-loop μ-loop loop-holds returns (λ c. search needs) (λ c. search needs) returns-2 (λ c. search needs) (λ c. search needs)
+    (λ c. search needs) (λ c. search needs) nearer-requires returns-3 add-m (λ c. search needs) (λ c. search needs) loop-again returns-4)

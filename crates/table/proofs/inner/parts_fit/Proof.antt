@@ -7,25 +7,10 @@ use native.Mathlib.Omega.{arith}
 use Rattle.table.proofs.inner.parts_fit.Statement.{statement}
 use Rattle.table.proofs.inner.parts_fit.Tie as tie
 
-shared-slice-read-made : tie.Need-shared-slice-read-made
-shared-slice-read-made c = search needs
-
 returns : tie.Need-returns
 returns c =
     let a = c .before .before .before .before .before .args in
     sym (parts-many limits (a .levels .now) (a .bindings .now) (a .objects .now) (omega arith) (c .if1 .taken))
-
-add-rest-zero : tie.Need-add-rest-zero
-add-rest-zero c = search needs
-
-rest-zero-requires : tie.Need-rest-zero-requires
-rest-zero-requires c κs = search needs
-
-shared-slice-read-if3 : tie.Need-shared-slice-read-if3
-shared-slice-read-if3 c = search needs
-
-scan-levels-requires : tie.Need-scan-levels-requires
-scan-levels-requires c κs = search needs
 
 returns-2 : tie.Need-returns-2
 returns-2 c =
@@ -48,14 +33,5 @@ returns-4 c =
 
 pub parts-fit-spec : {M : Type 1} → statement M
 parts-fit-spec =
-    tie.close
-    (tie.spec
-    shared-slice-read-made
-    returns
-    add-rest-zero
-    rest-zero-requires
-    shared-slice-read-if3
-    scan-levels-requires
-    returns-2
-    returns-3
+    tie.close (tie.spec (λ c. search needs) returns (λ c. search needs) (λ c κs. search needs) (λ c. search needs) (λ c κs. search needs) returns-2 returns-3
     returns-4)

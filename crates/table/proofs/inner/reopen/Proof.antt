@@ -4,9 +4,6 @@ use borrow.Author.Needs.{needs}
 use Rattle.table.proofs.inner.reopen.Statement.{statement}
 use Rattle.table.proofs.inner.reopen.Tie as tie
 
-sub-result : tie.Need-sub-result
-sub-result c = search needs
-
 returns : tie.Need-returns
 returns c = simp (le-leb _ _ (c .if1 .taken))
 
@@ -14,4 +11,4 @@ returns-2 : tie.Need-returns-2
 returns-2 c = simp (lt-leb _ _ (c .if1 .left))
 
 pub reopen-spec : {M : Type 1} → statement M
-reopen-spec = tie.close (tie.spec sub-result returns returns-2)
+reopen-spec = tie.close (tie.spec (λ c. search needs) returns returns-2)

@@ -1,9 +1,8 @@
 -- Whether the words before i were zero, and those from i on are.
 use mathlib.Core.Path.{_≡_, refl, _∙_}
-use mathlib.Core.Bool.{false}
+use mathlib.Core.Bool.{false, cond}
 use Prim.Native.Nat.{_-_, _≤_}
 use lib.ListN.{length, drop}
-use Rattle.pkg_length.specs.Refusal.{pick}
 use Rattle.name_object.specs.Memory.{allZero}
 use Rattle.name_object.proofs.Zeros.{clean-turn, clean-end}
 use borrow.Author.Needs.{needs}
@@ -13,28 +12,13 @@ use Rattle.table.proofs.inner.rest_zero.Tie as tie
 
 abbrev Inv-loop : tie.InvT-loop
 Inv-loop xs from clean₀ i₀ clean i =
-    (i ≤ length xs) × (pick clean (allZero (drop i xs)) false ≡ allZero (drop from xs))
+    (i ≤ length xs) × (cond clean (allZero (drop i xs)) false ≡ allZero (drop from xs))
 
 abbrev μ-loop : tie.MeasureT-loop
 μ-loop xs from clean₀ i₀ clean i = length xs - i
 
 loop-holds : tie.Need-loop-holds Inv-loop μ-loop
 loop-holds c = (omega arith, refl)
-
-mul-is-clean : tie.Need-mul-is-clean Inv-loop μ-loop
-mul-is-clean c = search needs
-
-shared-slice-read-is-clean : tie.Need-shared-slice-read-is-clean Inv-loop μ-loop
-shared-slice-read-is-clean c = search needs
-
-is-clean-requires : tie.Need-is-clean-requires Inv-loop μ-loop
-is-clean-requires c κs = search needs
-
-add-i : tie.Need-add-i Inv-loop μ-loop
-add-i c = search needs
-
-loop-less : tie.Need-loop-less Inv-loop μ-loop
-loop-less c = omega arith
 
 loop-again : tie.Need-loop-again Inv-loop μ-loop
 loop-again c =
@@ -47,15 +31,5 @@ returns c =
 
 pub rest-zero-spec : {M : Type 1} → statement M
 rest-zero-spec =
-    tie.close
-    (tie.spec
-    Inv-loop
-    μ-loop
-    loop-holds
-    mul-is-clean
-    shared-slice-read-is-clean
-    is-clean-requires
-    add-i
-    loop-less
-    loop-again
-    returns)
+    tie.close (tie.spec Inv-loop μ-loop loop-holds (λ c. search needs) (λ c. search needs) (λ c κs. search needs) (λ c. search needs) (λ c. omega arith)
+    loop-again returns)

@@ -1,6 +1,6 @@
 -- What is left of the pass decides as the whole pass does.
 use mathlib.Core.Path.{_≡_, refl, sym, _∙_}
-use Prim.Native.Nat.{_+_, _-_, _≤_}
+use Prim.Native.Nat.{_-_, _≤_}
 use lib.ListN.{length, drop, getD, length-set}
 use Rattle.name_object.specs.Component.{componentLimit}
 use Rattle.table.specs.Inside.{scan, lowest}
@@ -21,21 +21,6 @@ abbrev μ-loop : tie.MeasureT-loop
 loop-holds : tie.Need-loop-holds Inv-loop μ-loop
 loop-holds c = unfold lowest in (refl, omega arith, omega arith, omega arith, refl)
 
-mul-w : tie.Need-mul-w Inv-loop μ-loop
-mul-w c = search needs
-
-shared-slice-read-w : tie.Need-shared-slice-read-w Inv-loop μ-loop
-shared-slice-read-w c = search needs
-
-add-rest-zero : tie.Need-add-rest-zero Inv-loop μ-loop
-add-rest-zero c = search needs
-
-rest-zero-requires : tie.Need-rest-zero-requires Inv-loop μ-loop
-rest-zero-requires c κs = search needs
-
-rest-zero-requires-2 : tie.Need-rest-zero-requires-2 Inv-loop μ-loop
-rest-zero-requires-2 c κs = search needs
-
 returns : tie.Need-returns Inv-loop μ-loop
 returns c =
     let l = c .before .before .before .before .before .before .loop in
@@ -47,12 +32,6 @@ returns-2 c =
     let l = c .before .before .before .before .before .loop in
     let a = c .before .before .before .before .before .before .before .before .args in
     sym (turn-zero componentLimit (a .made) (l .p) (l .low) (a .levels .now) (l .k) (a .bindings .now) (l .m) (omega arith) (c .before .before .if1 .taken) ∙ rw (sym (c .before .rest-zero .ensures) ∙ c .if2 .left)) ∙ l .inv .4
-
-record-fits-requires : tie.Need-record-fits-requires Inv-loop μ-loop
-record-fits-requires c κs = search needs
-
-add-low : tie.Need-add-low Inv-loop μ-loop
-add-low c = search needs
 
 mul-low : tie.Need-mul-low Inv-loop μ-loop
 mul-low c =
@@ -114,12 +93,6 @@ returns-3 c =
     let a = c .before .before .before .before .before .before .before .before .before .args in
     sym (turn-unfit componentLimit (a .made) (l .p) (l .low) (a .levels .now) (l .k) (a .bindings .now) (l .m) (omega arith) (c .before .before .before .if1 .left) (sym (c .before .record-fits .ensures) ∙ c .if3 .left)) ∙ l .inv .4
 
-add-k : tie.Need-add-k Inv-loop μ-loop
-add-k c = search needs
-
-loop-less : tie.Need-loop-less Inv-loop μ-loop
-loop-less c = search needs
-
 loop-again : tie.Need-loop-again Inv-loop μ-loop
 loop-again c =
     let l = c .before .before .before .before .before .before .loop in
@@ -131,9 +104,6 @@ loop-again c =
       sym (turn-pass componentLimit (a .made) (l .p) (l .low) (a .levels .now) (l .k) (a .bindings .now) (l .m) (omega arith) (c .before .before .before .if1 .left) (sym (c .before .record-fits .ensures) ∙ c .if3 .taken)) ∙ l .inv .4,
     )
 
-rest-zero-requires-3 : tie.Need-rest-zero-requires-3 Inv-loop μ-loop
-rest-zero-requires-3 c κs = search needs
-
 returns-4 : tie.Need-returns-4 Inv-loop μ-loop
 returns-4 c =
     let l = c .before .before .loop in
@@ -142,29 +112,6 @@ returns-4 c =
 
 pub scan-levels-spec : {M : Type 1} → statement M
 scan-levels-spec =
-    tie.close
-    (tie.spec
-    Inv-loop
-    μ-loop
-    loop-holds
-    mul-w
-    shared-slice-read-w
-    add-rest-zero
-    rest-zero-requires
-    rest-zero-requires-2
-    returns
-    returns-2
-    record-fits-requires
-    add-low
-    mul-low
-    array-write-low
-    add-low-2
-    mul-low-2
-    array-write-low-2
-    add-m
-    returns-3
-    add-k
-    loop-less
-    loop-again
-    rest-zero-requires-3
-    returns-4)
+    tie.close (tie.spec Inv-loop μ-loop loop-holds (λ c. search needs) (λ c. search needs) (λ c. search needs) (λ c κs. search needs) (λ c κs. search needs)
+    returns returns-2 (λ c κs. search needs) (λ c. search needs) mul-low array-write-low add-low-2 mul-low-2 array-write-low-2 add-m returns-3
+    (λ c. search needs) (λ c. search needs) loop-again (λ c κs. search needs) returns-4)

@@ -24,44 +24,17 @@ loop-holds : tie.Need-loop-holds Inv-loop μ-loop
 unfolding counts
 loop-holds c = (omega arith, omega arith, refl, refl, refl)
 
-gone-at-requires : tie.Need-gone-at-requires Inv-loop μ-loop
-gone-at-requires c κs = search needs
-
 returns : tie.Need-returns Inv-loop μ-loop
 returns c =
     let l = c .before .before .before .loop in
     let a = c .before .before .before .before .before .before .args in
     c .gone-at .ensures ∙ turn-out (a .levels .now) (a .path .now) (l .at) (l .j) (l .k) (omega arith) (c .before .if1 .taken) ∙ ap (placed (a .levels .now)) (l .inv .4)
 
-mul-w : tie.Need-mul-w Inv-loop μ-loop
-mul-w c = search needs
-
-shared-slice-read-w : tie.Need-shared-slice-read-w Inv-loop μ-loop
-shared-slice-read-w c = search needs
-
-gone-at-requires-2 : tie.Need-gone-at-requires-2 Inv-loop μ-loop
-gone-at-requires-2 c κs = search needs
-
 returns-2 : tie.Need-returns-2 Inv-loop μ-loop
 returns-2 c =
     let l = c .before .before .before .before .before .loop in
     let a = c .before .before .before .before .before .before .before .before .args in
     c .gone-at2 .ensures ∙ turn-stop (a .levels .now) (a .path .now) (l .at) (l .j) (l .k) (omega arith) (omega arith) (c .before .if2 .taken) ∙ ap (placed (a .levels .now)) (l .inv .4)
-
-add-if3 : tie.Need-add-if3 Inv-loop μ-loop
-add-if3 c = search needs
-
-mul-want : tie.Need-mul-want Inv-loop μ-loop
-mul-want c = search needs
-
-shared-slice-read-want : tie.Need-shared-slice-read-want Inv-loop μ-loop
-shared-slice-read-want c = search needs
-
-add-j : tie.Need-add-j Inv-loop μ-loop
-add-j c = search needs
-
-gone-at-requires-3 : tie.Need-gone-at-requires-3 Inv-loop μ-loop
-gone-at-requires-3 c κs = search needs
 
 returns-3 : tie.Need-returns-3 Inv-loop μ-loop
 returns-3 c =
@@ -74,12 +47,6 @@ add-m c =
     let l = c .before .before .before .before .before .loop in
     let a = c .before .before .before .before .before .before .before .before .args in
     omega (arith, l .inv .2, counts-low (a .levels .now) (l .k) (c .before .before .before .before .before .before .before .before .pre))
-
-add-k : tie.Need-add-k Inv-loop μ-loop
-add-k c = search needs
-
-loop-less : tie.Need-loop-less Inv-loop μ-loop
-loop-less c = search needs
 
 loop-again : tie.Need-loop-again Inv-loop μ-loop
 loop-again c =
@@ -100,25 +67,6 @@ returns-4 c =
 
 pub seek-spec : {M : Type 1} → statement M
 seek-spec =
-    tie.close
-    (tie.spec
-    Inv-loop
-    μ-loop
-    loop-holds
-    gone-at-requires
-    returns
-    mul-w
-    shared-slice-read-w
-    gone-at-requires-2
-    returns-2
-    add-if3
-    mul-want
-    shared-slice-read-want
-    add-j
-    gone-at-requires-3
-    returns-3
-    add-m
-    add-k
-    loop-less
-    loop-again
-    returns-4)
+    tie.close (tie.spec Inv-loop μ-loop loop-holds (λ c κs. search needs) returns (λ c. search needs) (λ c. search needs) (λ c κs. search needs) returns-2
+    (λ c. search needs) (λ c. search needs) (λ c. search needs) (λ c. search needs) (λ c κs. search needs) returns-3 add-m (λ c. search needs)
+    (λ c. search needs) loop-again returns-4)

@@ -6,30 +6,6 @@ use borrow.Author.Needs.{needs}
 use Rattle.table.proofs.inner.seg_ok.Statement.{statement}
 use Rattle.table.proofs.inner.seg_ok.Tie as tie
 
-cast-is-lead-name-char : tie.Need-cast-is-lead-name-char
-cast-is-lead-name-char c = search needs
-
-is-lead-name-char-requires : tie.Need-is-lead-name-char-requires
-is-lead-name-char-requires c κs = search needs
-
-cast-is-name-char : tie.Need-cast-is-name-char
-cast-is-name-char c = search needs
-
-is-name-char-requires : tie.Need-is-name-char-requires
-is-name-char-requires c κs = search needs
-
-cast-is-name-char-2 : tie.Need-cast-is-name-char-2
-cast-is-name-char-2 c = search needs
-
-is-name-char-requires-2 : tie.Need-is-name-char-requires-2
-is-name-char-requires-2 c κs = search needs
-
-cast-is-name-char-3 : tie.Need-cast-is-name-char-3
-cast-is-name-char-3 c = search needs
-
-is-name-char-requires-3 : tie.Need-is-name-char-requires-3
-is-name-char-requires-3 c κs = search needs
-
 returns : tie.Need-returns
 unfolding segmentOk segOk
 returns c =
@@ -56,17 +32,5 @@ returns-4 c = simp (sym (c .before .is-lead-name-char .ensures) ∙ c .if1 .left
 
 pub seg-ok-spec : {M : Type 1} → statement M
 seg-ok-spec =
-    tie.close
-    (tie.spec
-    cast-is-lead-name-char
-    is-lead-name-char-requires
-    cast-is-name-char
-    is-name-char-requires
-    cast-is-name-char-2
-    is-name-char-requires-2
-    cast-is-name-char-3
-    is-name-char-requires-3
-    returns
-    returns-2
-    returns-3
-    returns-4)
+    tie.close (tie.spec (λ c. search needs) (λ c κs. search needs) (λ c. search needs) (λ c κs. search needs) (λ c. search needs) (λ c κs. search needs)
+    (λ c. search needs) (λ c κs. search needs) returns returns-2 returns-3 returns-4)

@@ -16,17 +16,5 @@ returns c =
     let l₂ : length (s .val) ≡ 15 = search needs in
     rw (set-out (s .set) (c-args .cell) true (omega arith), set-out (s .val) (c-args .cell) (c-args .number) (omega arith))
 
-element-write-self : tie.Need-element-write-self
-element-write-self c = search needs
-
-mul-self : tie.Need-mul-self
-mul-self c = search needs
-
-element-write-self-2 : tie.Need-element-write-self-2
-element-write-self-2 c = search needs
-
-returns-2 : tie.Need-returns-2
-returns-2 c = refl
-
 pub with-spec : {M : Type 1} → statement M
-with-spec = tie.close (tie.spec returns element-write-self mul-self element-write-self-2 returns-2)
+with-spec = tie.close (tie.spec returns (λ c. search needs) (λ c. search needs) (λ c. search needs) (λ c. refl))
