@@ -10,86 +10,121 @@ use Rattle.namespace.specs.declared.SearchSaid.{SearchSaid}
 use Rattle.namespace.specs.declared.LevelSaid.{LevelSaid}
 use Rattle.klem_c.specs.Result.{one}
 use Rattle.klem_c.specs.Paths.{texts}
-use mathlib.Core.Path.{_≡_, refl, sym, _∙_, ap}
+use mathlib.Core.Path.{_≡_, refl, _∙_, ap}
 use mathlib.Core.Bool.{Bool, true, false, _&&_, cond}
 use mathlib.Core.List.{List, [], _∷_, _++_}
-use Prim.Native.Nat.{ℕ, _-_, _*_, _<_}
+use Prim.Native.Nat.{ℕ}
 use native.Mathlib.Omega.{arith}
 use lib.Dec.{eqb}
-use lib.ListN.{length, getD, set, length-append, length-replicate, drop-of-length-le}
+use lib.ListN.{length, getD, set, drop-of-length-le}
 use lib.Seq.{sets-eq}
-use borrow.Author.Tests.{eqb-true, ne-eqb}
+use borrow.Author.Tests.{ne-eqb}
 use Rattle.pkg_length.specs.Refusal.{Answer, gives, refuses, paper}
 use Rattle.pkg_length.specs.declared.AmlError.{AmlError}
-use Rattle.name_object.specs.Component.{Component, root, componentLimit, spell}
-use Rattle.name_object.specs.Memory.{zeros, nameOf, Named, Told, told}
+use Rattle.name_object.specs.Component.{root, componentLimit}
+use Rattle.name_object.specs.Memory.{nameOf, Named, Told, told}
 use Rattle.name_object.specs.declared.AmlName.{AmlName}
-use Rattle.name_object.proofs.Memory.{length-spell}
 use Rattle.table.specs.Memory.{Left}
-use Rattle.klem_c.specs.Result.{resultWords, resultOf, valued, leaves, wordsOf}
-use Rattle.klem_c.specs.Paths.{pathSize, pathBytes, names}
+use Rattle.klem_c.specs.Result.{resultWords, resultOf, valued, sized, After, leaves, answers, wordsOf}
+use Rattle.klem_c.specs.Paths.{pathSize, pathBytes, outOf, names}
 use Rattle.klem_c.specs.Tables.{lefts}
 use Rattle.klem_c.specs.declared.reply.Reply.{Reply}
 
 -- eight stores into eight words
-pub eight : (xs : List ℕ) (a b c d e f g h : ℕ) → length xs ≡ resultWords →
-    set (set (set (set (set (set (set (set xs 0 a) 1 b) 2 c) 3 d) 4 e) 5 f) 6 g) 7 h ≡ a ∷ b ∷ c ∷ d ∷ e ∷ f ∷ g ∷ h ∷ []
-eight xs a b c d e f g h l =
-    let vs : List ℕ = a ∷ b ∷ c ∷ d ∷ e ∷ f ∷ g ∷ h ∷ [] in
-    sets-eq vs xs 0 (omega arith) ∙ ap (λ (r : List ℕ). vs ++ r) (drop-of-length-le xs {i = 8} (omega arith))
+pub eight : (xs : List ℕ) (t : Reply) → length xs ≡ resultWords →
+    set (set (set (set (set (set (set (set xs 0 (t .number)) 1 (t .place)) 2 (t .first)) 3 (t .second)) 4 (t .third)) 5 0) 6 0) 7 0 ≡ wordsOf t
+eight xs t l = sets-eq (wordsOf t) xs 0 (omega arith) ∙ ap (λ (r : List ℕ). wordsOf t ++ r) (drop-of-length-le xs {i = 8} (omega arith))
 
 -- ## Slices that fit
 
-both : (x y : Bool) → (x && y) ≡ true → (x ≡ true) × (y ≡ true)
+pub both : (x y : Bool) → (x && y) ≡ true → (x ≡ true) × (y ≡ true)
 both true y h = (refl, h)
-both false y h = absurd (let y : false ≡ true = h in let z : _≡_ {A = ℕ} 0 1 = cc in omega arith)
+both false y h = absurd (let z : _≡_ {A = ℕ} 0 1 = cc in omega arith)
 
-pub one-fits : (a b n : ℕ) {r : Bool} → r ≡ (eqb a resultWords && eqb b n) → (r ≡ (eqb a resultWords && eqb b n)) × (r ≡ true → (a ≡ resultWords) × (b ≡ n))
-one-fits a b n e = (e, λ t. let h = both (eqb a resultWords) (eqb b n) (sym e ∙ t) in (eqb-true _ _ (h .0), eqb-true _ _ (h .1)))
-
-pub two-fit : (a b c n : ℕ) {r : Bool} → r ≡ (eqb a resultWords && (eqb b pathSize && eqb c n)) →
-    (r ≡ (eqb a resultWords && (eqb b pathSize && eqb c n))) × (r ≡ true → (a ≡ resultWords) × (b ≡ pathSize) × (c ≡ n))
-two-fit a b c n e = (
-  e,
-  λ t.
-      let h = both (eqb a resultWords) (eqb b pathSize && eqb c n) (sym e ∙ t) in
-      let k = both (eqb b pathSize) (eqb c n) (h .1) in
-      (eqb-true _ _ (h .0), eqb-true _ _ (k .0), eqb-true _ _ (k .1)),
-)
-
-pub three-fit : (a b c d : ℕ) {r : Bool} → r ≡ (eqb a resultWords && (eqb b pathSize && (eqb c pathSize && eqb d pathSize))) →
-    (r ≡ (eqb a resultWords && (eqb b pathSize && (eqb c pathSize && eqb d pathSize)))) × (r ≡ true → (a ≡ resultWords) × (b ≡ pathSize) × (c ≡ pathSize) × (d ≡ pathSize))
-three-fit a b c d e = (
-  e,
-  λ t.
-      let h = both (eqb a resultWords) (eqb b pathSize && (eqb c pathSize && eqb d pathSize)) (sym e ∙ t) in
-      let k = both (eqb b pathSize) (eqb c pathSize && eqb d pathSize) (h .1) in
-      let l = both (eqb c pathSize) (eqb d pathSize) (k .1) in
-      (eqb-true _ _ (h .0), eqb-true _ _ (k .0), eqb-true _ _ (l .0), eqb-true _ _ (l .1)),
-)
+pub and-true : (x : Bool) → (x && true) ≡ x
+and-true true = refl
+and-true false = refl
 
 -- ## What is told is what is left
 
-module _ (fit : Bool) (result lent : List ℕ) {r : ℕ} {result′ lent′ : List ℕ} (t : Reply) (fits : fit ≡ true) (said : (r ≡ t .number) × (result′ ≡ wordsOf t)) where
-  -- the words and the other memory as they are
-  pub tells : {words new : List ℕ} → wordsOf t ≡ words → lent′ ≡ new → record { number = r; result = result′; lent = lent′ } ≡ leaves fit result lent words new
-  tells w l =
-      rw fits (λ i. record { number = (said .0 ∙ ap (λ (ws : List ℕ). getD ws 0 0) w) i; result = (said .1 ∙ w) i; lent = l i })
+-- what is written matters only where the slices fit
+pub guarded : (fit : Bool) (result lent : List ℕ) {words words′ new new′ : List ℕ} → (fit ≡ true → words ≡ words′) → (fit ≡ true → new ≡ new′) →
+    leaves fit result lent words new ≡ leaves fit result lent words′ new′
+guarded true result lent w n = λ i. record { number = getD (w refl i) 0 0; result = w refl i; lent = n refl i }
+guarded false result lent w n = refl
 
+-- the result is written by itself, and what else was lent came to new
+pub beside : (fit : Bool) (result lent words new : List ℕ) {r : ℕ} {result′ lent′ : List ℕ} → record { number = r; result = result′; lent = [] } ≡ leaves fit result [] words [] →
+    lent′ ≡ cond fit new lent → record { number = r; result = result′; lent = lent′ } ≡ leaves fit result lent words new
+beside true result lent words new h l = λ i. record { number = h i .number; result = h i .result; lent = l i }
+beside false result lent words new h l = λ i. record { number = h i .number; result = h i .result; lent = l i }
+
+module _ {A : Type 0} (f : A → List ℕ) (rest : Bool) (result : List ℕ) {left : After} (t : Reply) {s a : Answer A} where
   -- an answer of a layer, with its values as words
-  pub answered : {A : Type 0} (f : A → List ℕ) {s a : Answer A} {new : List ℕ} → wordsOf t ≡ resultOf (valued f s) → s ≡ a → lent′ ≡ new →
-      record { number = r; result = result′; lent = lent′ } ≡ leaves fit result lent (resultOf (valued f a)) new
-  answered {A} f w e l = tells (w ∙ ap (λ (x : Answer A). resultOf (valued f x)) e) l
+  pub answered : left ≡ leaves (sized resultWords result && rest) result [] (wordsOf t) [] → wordsOf t ≡ resultOf (valued f s) → (rest ≡ true → s ≡ a) →
+      left ≡ answers (sized resultWords result && rest) result (valued f a)
+  answered h w e =
+      h ∙ guarded (sized resultWords result && rest) result [] (λ q. w ∙ ap (λ (x : Answer A). resultOf (valued f x)) (e (both (sized resultWords result) rest q .1))) (λ q. refl)
+
+-- no slice but the result has a length of its own
+pub answered-alone : {A : Type 0} (f : A → List ℕ) (result : List ℕ) {left : After} (t : Reply) {s a : Answer A} →
+    left ≡ leaves (sized resultWords result && true) result [] (wordsOf t) [] → wordsOf t ≡ resultOf (valued f s) → s ≡ a → left ≡ answers (sized resultWords result) result (valued f a)
+answered-alone f result t h w e = rw (and-true (sized resultWords result)) at (answered f true result t h w (λ q. e))
+
+-- a call that writes more than its result, made where the slices fit
+module _ (rest : Bool) (result lent : List ℕ) {r : ℕ} {result′ lent′ : List ℕ} (t : Reply) (q : (sized resultWords result && rest) ≡ true)
+    (h : record { number = r; result = result′; lent = [] } ≡ leaves (sized resultWords result && true) result [] (wordsOf t) []) where
+  -- the words and the other memory as they are
+  pub tells : {words new : List ℕ} → wordsOf t ≡ words → lent′ ≡ new → record { number = r; result = result′; lent = lent′ } ≡ leaves (sized resultWords result && rest) result lent words new
+  tells w l =
+      let h′ = rw (both (sized resultWords result) rest q .0) at h in
+      rw q
+      (λ i. record {
+        number = (ap (λ (x : After). x .number) h′ ∙ ap (λ (ws : List ℕ). getD ws 0 0) w) i;
+        result = (ap (λ (x : After). x .result) h′ ∙ w) i;
+        lent = l i;
+      })
 
   -- what an edit leaves of the table
-  pub edited : {A : Type 0} (f : A → List ℕ) {s : Answer A} {l : Left A} → wordsOf t ≡ resultOf (valued f s) → record { words = lent′; said = s } ≡ l →
-      record { number = r; result = result′; lent = lent′ } ≡ lefts fit result lent f l
-  edited {A} f w e = answered f w (ap (λ (x : Left A). x .said) e) (ap (λ (x : Left A). x .words) e)
+  pub edited : {A : Type 0} (f : A → List ℕ) {s : Answer A} {l : Left A} → wordsOf t ≡ resultOf (valued f s) → (rest ≡ true → record { words = lent′; said = s } ≡ l) →
+      record { number = r; result = result′; lent = lent′ } ≡ lefts (sized resultWords result && rest) result lent f l
+  edited {A} f w e =
+      let m = e (both (sized resultWords result) rest q .1) in
+      tells (w ∙ ap (λ (x : Left A). resultOf (valued f (x .said))) m) (ap (λ (x : Left A). x .words) m)
 
   -- what a text leaves of what was lent for it
-  pub written : {s : Answer ℕ} {x : Wrote} → wordsOf t ≡ resultOf (valued one s) → record { out = lent′; said = s } ≡ x →
-      record { number = r; result = result′; lent = lent′ } ≡ texts fit result lent x
-  written w e = answered one w (ap (λ (y : Wrote). y .said) e) (ap (λ (y : Wrote). y .out) e)
+  pub written : {s : Answer ℕ} {x : Wrote} → wordsOf t ≡ resultOf (valued one s) → (rest ≡ true → record { out = lent′; said = s } ≡ x) →
+      record { number = r; result = result′; lent = lent′ } ≡ texts (sized resultWords result && rest) result lent x
+  written w e =
+      let m = e (both (sized resultWords result) rest q .1) in
+      tells (w ∙ ap (λ (y : Wrote). resultOf (valued one (y .said))) m) (ap (λ (y : Wrote). y .out) m)
+
+-- an edit without a path
+pub edited-alone : {A : Type 0} (f : A → List ℕ) (result table : List ℕ) {r : ℕ} {result′ table′ : List ℕ} (t : Reply) {s : Answer A} {l : Left A} →
+    sized resultWords result ≡ true → record { number = r; result = result′; lent = [] } ≡ leaves (sized resultWords result && true) result [] (wordsOf t) [] →
+    wordsOf t ≡ resultOf (valued f s) → record { words = table′; said = s } ≡ l → record { number = r; result = result′; lent = table′ } ≡ lefts (sized resultWords result) result table f l
+edited-alone f result table t q h w e = rw (and-true (sized resultWords result)) at (edited true result table t (and-true (sized resultWords result) ∙ q) h f w (λ x. e))
+
+-- the path is written where the slices fit and the number is 0
+pub two-tests : (x y z n : Bool) (new old : List ℕ) → cond (y && (x && ((y && z) && n))) new old ≡ cond (x && (y && z)) (cond n new old) old
+two-tests true true true n new old = refl
+two-tests true true false n new old = refl
+two-tests true false z n new old = refl
+two-tests false true z n new old = refl
+two-tests false false z n new old = refl
+
+-- the frame is written where the slices fit and that is wanted
+pub turned : (x y n : Bool) (new old : List ℕ) → cond (y && (x && n)) new old ≡ cond (x && y) (cond n new old) old
+turned true true n new old = refl
+turned true false n new old = refl
+turned false true n new old = refl
+turned false false n new old = refl
+
+pub turned-alone : (x y : Bool) (new old : List ℕ) → cond (y && x) new old ≡ cond (x && y) new old
+turned-alone true true new old = refl
+turned-alone true false new old = refl
+turned-alone false true new old = refl
+turned-alone false false new old = refl
 
 -- ## Paths
 
@@ -151,30 +186,31 @@ pub level-numbered : (s : LevelSaid) → Numbered (levelSaid s)
 level-numbered (LevelSaid.At k) = tt
 level-numbered (LevelSaid.Refused e) = paper-numbered e
 
--- what is told beside a path of at most 32 components has a count of two bytes: its 128 bytes hold no more
-name-small : (cs : List Component) → length (nameOf componentLimit cs .bytes) ≡ 128 → nameOf componentLimit cs .count < 65536
-unfolding nameOf zeros
-name-small cs h =
-    omega (arith, length-append (spell cs) (zeros (4 * (componentLimit - length cs))), length-spell cs, length-replicate {A = ℕ} (4 * (componentLimit - length cs)) 0)
+module _ {A : Type 0} (f : A → List ℕ) (rest : Bool) (result out : List ℕ) (t : Reply) (name : AmlName) (s : Answer A) where
+  new-words : (a : Answer (Named A)) → wordsOf t ≡ resultOf (valued f s) → record { memory = name; said = s } ≡ told componentLimit a →
+      wordsOf t ≡ resultOf (valued (λ v. f (v .value)) a)
+  new-words (gives v) w e = w ∙ ap (λ (x : Told A). resultOf (valued f (x .said))) e
+  new-words (refuses n p) w e = w ∙ ap (λ (x : Told A). resultOf (valued f (x .said))) e
 
-pub count-small : {A : Type 0} (name : AmlName) {s : Answer A} (a : Answer (Named A)) → record { memory = name; said = s } ≡ told componentLimit a → length (name .bytes) ≡ 128 → name .count < 65536
-count-small {A} name (gives v) e h = let m : name ≡ nameOf componentLimit (v .path) = ap (λ (x : Told A). x .memory) e in rw m (name-small (v .path) (rw m at h))
-count-small {A} name (refuses n p) e h = let m : name ≡ nameOf componentLimit [] = ap (λ (x : Told A). x .memory) e in rw m (name-small [] (rw m at h))
-
-module _ {A : Type 0} (f : A → List ℕ) (fit : Bool) (result out : List ℕ) {r : ℕ} {result′ out′ : List ℕ} (t : Reply) (name : AmlName)
-    (fits : fit ≡ true) (said : (r ≡ t .number) × (result′ ≡ wordsOf t) × (out′ ≡ cond (eqb (t .number) 0) (pathBytes name) out)) where
   -- a path that is given is in `out`; a refusal leaves it
-  pub named : (s : Answer A) (a : Answer (Named A)) → Numbered s → wordsOf t ≡ resultOf (valued f s) → record { memory = name; said = s } ≡ told componentLimit a →
-      record { number = r; result = result′; lent = out′ } ≡ names fit result out f a
-  named s (gives v) h w e =
-      let q : s ≡ gives (v .value) = ap (λ (x : Told A). x .said) e in
-      let m : name ≡ nameOf componentLimit (v .path) = ap (λ (x : Told A). x .memory) e in
-      let w′ : wordsOf t ≡ resultOf (gives (f (v .value))) = w ∙ ap (λ (x : Answer A). resultOf (valued f x)) q in
-      let z : t .number ≡ 0 = ap (λ (ws : List ℕ). getD ws 0 0) w′ in
-      tells fit result out t fits (said .0, said .1) w′ (said .2 ∙ ap (λ (n : ℕ). cond (eqb n 0) (pathBytes name) out) z ∙ ap pathBytes m)
-  named s (refuses n p) h w e =
-      let q : s ≡ refuses n p = ap (λ (x : Told A). x .said) e in
-      let w′ : wordsOf t ≡ resultOf (refuses n p) = w ∙ ap (λ (x : Answer A). resultOf (valued f x)) q in
-      let z : t .number ≡ n = ap (λ (ws : List ℕ). getD ws 0 0) w′ in
-      let h′ : n ≡ 0 → ⊥ = rw q at h in
-      tells fit result out t fits (said .0, said .1) w′ (said .2 ∙ ap (λ (k : ℕ). cond (eqb k 0) (pathBytes name) out) z ∙ ap (λ (b : Bool). cond b (pathBytes name) out) (ne-eqb n 0 h′))
+  new-out : (a : Answer (Named A)) → Numbered s → wordsOf t ≡ resultOf (valued f s) → record { memory = name; said = s } ≡ told componentLimit a →
+      cond (eqb (t .number) 0) (pathBytes name) out ≡ outOf out a
+  new-out (gives v) h w e =
+      let z : t .number ≡ 0 = ap (λ (ws : List ℕ). getD ws 0 0) (new-words (gives v) w e) in
+      rw z (ap (λ (x : Told A). pathBytes (x .memory)) e)
+  new-out (refuses n p) h w e =
+      let z : t .number ≡ n = ap (λ (ws : List ℕ). getD ws 0 0) (new-words (refuses n p) w e) in
+      let h′ : n ≡ 0 → ⊥ = rw (ap (λ (x : Told A). x .said) e) at h in
+      rw (z, ne-eqb n 0 h′)
+
+  pub named : {left : After} (a : Answer (Named A)) → left ≡ leaves (sized resultWords result && (sized pathSize out && rest)) result out (wordsOf t) (cond (eqb (t .number) 0) (pathBytes name) out) → Numbered s → wordsOf t ≡ resultOf (valued f s) →
+      (rest ≡ true → record { memory = name; said = s } ≡ told componentLimit a) → left ≡ names (sized resultWords result && (sized pathSize out && rest)) result out f a
+  named a h n w e =
+      let fits : (sized resultWords result && (sized pathSize out && rest)) ≡ true → record { memory = name; said = s } ≡ told componentLimit a = λ q. e (both (sized pathSize out) rest (both (sized resultWords result) (sized pathSize out && rest) q .1) .1) in
+      h ∙ guarded (sized resultWords result && (sized pathSize out && rest)) result out (λ q. new-words a w (fits q)) (λ q. new-out a n w (fits q))
+
+-- no slice but the result and `out` has a length of its own
+pub named-alone : {A : Type 0} (f : A → List ℕ) (result out : List ℕ) (t : Reply) (name : AmlName) (s : Answer A) {left : After} (a : Answer (Named A)) →
+    left ≡ leaves (sized resultWords result && (sized pathSize out && true)) result out (wordsOf t) (cond (eqb (t .number) 0) (pathBytes name) out) → Numbered s →
+    wordsOf t ≡ resultOf (valued f s) → record { memory = name; said = s } ≡ told componentLimit a → left ≡ names (sized resultWords result && sized pathSize out) result out f a
+named-alone f result out t name s a h n w e = rw (and-true (sized pathSize out)) at (named f true result out t name s a h n w (λ q. e))

@@ -16,11 +16,15 @@ use Rattle.klem_c.specs.Result.{resultWords, resultOf, valued, nothing, 
 abbrev pub pathSize : ℕ
 pathSize = 130
 
+-- the bytes of its components
+abbrev pub pathRoom : ℕ
+pathRoom = 128
+
 abbrev pub pathAt : List ℕ → AmlName
 pathAt bs = record { count = getD bs 0 0 + 256 * getD bs 1 0; bytes = drop 2 bs }
 
 abbrev pub pathBytes : AmlName → List ℕ
-pathBytes name = name .count % 256 ∷ name .count / 256 ∷ name .bytes
+pathBytes name = name .count % 256 ∷ name .count / 256 % 256 ∷ name .bytes
 
 -- the slices of a call: its result and one path, two, or three, `out` counted
 abbrev pub fitsPath : List ℕ → List ℕ → Bool
@@ -56,7 +60,7 @@ klemFromNameSeg seg out result = paths (sized resultWords result && (sized pathS
 
 unfoldable pub klemFromComponents : ℕ → List ℕ → List ℕ → List ℕ → After
 klemFromComponents count bytes out result =
-    paths (sized resultWords result && (sized pathSize out && sized 128 bytes)) result out (pathIn componentLimit (record { count = count; bytes = bytes }))
+    paths (sized resultWords result && (sized pathSize out && sized pathRoom bytes)) result out (pathIn componentLimit (record { count = count; bytes = bytes }))
 
 unfoldable pub klemFromStr : List ℕ → List ℕ → List ℕ → After
 klemFromStr text out result = paths (fitsPath result out) result out (fromText componentLimit text)

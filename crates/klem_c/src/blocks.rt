@@ -8,35 +8,23 @@ use crate::reply;
 use crate::slices;
 use statement::frame::Frame;
 
-// What klem_frame_set returns where a frame has no such cell.
-const BAD_CELL: u64 = 1003;
-
-const CELLS: usize = 15;
-
 #[no_mangle]
 pub extern "C" fn klem_check(block: &[u8], result: &mut [u64]) -> u64
     ensures { λ r. ⌜ KlemCheck (now (block .entry)) (now (result .entry)) (record { number = r; result = now (result .exit); lent = [] }) ⌝ }
 {
-    if slices::fit(result.len()) {
-        return reply::tell(result, reply::verdict(statement::check(block)));
-    }
-    slices::BAD_SLICE
+    reply::tell(result, true, reply::verdict(statement::check(block)))
 }
 
 #[no_mangle]
 pub extern "C" fn klem_run(block: &[u8], frame: &mut [u64], budget: u64, result: &mut [u64]) -> u64
     ensures { λ r. ⌜ KlemRun (now (block .entry)) (now (frame .entry)) budget (now (result .entry)) (record { number = r; result = now (result .exit); lent = now (frame .exit) }) ⌝ }
 {
-    if slices::fit_one(result.len(), frame.len(), slices::FRAME) {
+    if slices::both(result.len() == slices::RESULT, frame.len() == slices::FRAME) {
         let a = statement::run(block, frames::frame_in(frame), budget);
         let end = a.end;
-        let began = a.began;
-        if began {
-            let left = a.frame;
-            frames::put_frame(frame, left);
-            return reply::tell(result, reply::end(end, a.units));
-        }
-        return reply::tell(result, reply::end(end, a.units));
+        let left = a.frame;
+        frames::put_frame(frame, a.began, left);
+        return reply::tell(result, true, reply::end(end, a.units));
     }
     slices::BAD_SLICE
 }
@@ -45,22 +33,21 @@ pub extern "C" fn klem_run(block: &[u8], frame: &mut [u64], budget: u64, result:
 pub extern "C" fn klem_frame_new(frame: &mut [u64], result: &mut [u64]) -> u64
     ensures { λ r. ⌜ record { number = r; result = now (result .exit); lent = now (frame .exit) } ≡ klemFrameNew (now (frame .entry)) (now (result .entry)) ⌝ }
 {
-    if slices::fit_one(result.len(), frame.len(), slices::FRAME) {
-        frames::put_frame(frame, Frame::new());
-        return reply::tell(result, reply::given(0, 0, 0));
-    }
-    slices::BAD_SLICE
+    let fit = frame.len() == slices::FRAME;
+    frames::put_frame(frame, result.len() == slices::RESULT, Frame::new());
+    reply::tell(result, fit, reply::given(0, 0, 0))
 }
 
 #[no_mangle]
 pub extern "C" fn klem_frame_get(frame: &[u64], cell: usize, result: &mut [u64]) -> u64
     ensures { λ r. ⌜ record { number = r; result = now (result .exit); lent = [] } ≡ klemFrameGet (now (frame .entry)) cell (now (result .entry)) ⌝ }
 {
-    if slices::fit_one(result.len(), frame.len(), slices::FRAME) {
-        let f = frames::frame_in(frame);
-        return reply::tell(result, reply::cell(f.get(cell)));
-    }
-    slices::BAD_SLICE
+    let f = frames::frame_in(frame);
+    reply::tell(
+        result,
+        frame.len() == slices::FRAME,
+        reply::cell(f.get(cell)),
+    )
 }
 
 #[no_mangle]
@@ -72,13 +59,12 @@ pub extern "C" fn klem_frame_set(
 ) -> u64
     ensures { λ r. ⌜ record { number = r; result = now (result .exit); lent = now (frame .exit) } ≡ klemFrameSet (now (frame .entry)) cell number (now (result .entry)) ⌝ }
 {
-    if slices::fit_one(result.len(), frame.len(), slices::FRAME) {
-        if cell < CELLS {
-            let f = frames::frame_in(frame);
-            frames::put_frame(frame, f.with(cell, number));
-            return reply::tell(result, reply::given(0, 0, 0));
-        }
-        return reply::tell(result, reply::numbered(BAD_CELL, cell as u64));
-    }
-    slices::BAD_SLICE
+    let f = frames::frame_in(frame);
+    let fit = frame.len() == slices::FRAME;
+    frames::put_frame(
+        frame,
+        slices::both(result.len() == slices::RESULT, cell < frames::CELLS),
+        f.with(cell, number),
+    );
+    reply::tell(result, fit, reply::set_cell(cell))
 }

@@ -1,11 +1,15 @@
 // Frames in words.
 ghost use mathlib.Core.Path.{_≡_};
+ghost use mathlib.Core.Bool.{true, _&&_, cond};
 ghost use mathlib.Core.List.{_++_, map};
 ghost use lib.ListN.{length, drop};
 ghost use Rattle.statement.specs.Grammar.{cells};
-ghost use Rattle.klem_c.specs.Result.{flag};
+ghost use Rattle.klem_c.specs.Result.{flag, sized};
 ghost use Rattle.klem_c.specs.Frames.{frameSize, flagsAt, frameAt, frameWords};
+use crate::slices;
 use statement::frame::Frame;
+
+pub(crate) const CELLS: usize = 15;
 
 fn copy(dst: &mut [u64], src: &[u64])
     requires { ⌜ length (now dst) ≡ length (now src) ⌝ }
@@ -43,21 +47,28 @@ fn put_flags(words: &mut [u64], set: [bool; 15])
     }
 }
 
+// The frame that words hold, where they have their length.
 pub(crate) fn frame_in(words: &[u64]) -> Frame
-    requires { ⌜ length (now words) ≡ frameSize ⌝ }
-    ensures { λ r. ⌜ r ≡ frameAt (now (words .entry)) ⌝ }
+    ensures { λ r. ⌜ (sized frameSize (now (words .entry)) ≡ true → r ≡ frameAt (now (words .entry))) ⌝ }
 {
     let mut val = [0; 15];
-    copy(&mut val, &words[15..]);
-    let set = flags_in(words);
-    Frame { set, val }
+    if words.len() == slices::FRAME {
+        copy(&mut val, &words[15..]);
+        let set = flags_in(words);
+        return Frame { set, val };
+    }
+    Frame::new()
 }
 
-pub(crate) fn put_frame(words: &mut [u64], frame: Frame)
-    requires { ⌜ length (now words) ≡ frameSize ⌝ }
-    ensures { λ r. ⌜ now (words .exit) ≡ frameWords frame ⌝ }
+// Writes the frame where that is wanted and its words have their length.
+pub(crate) fn put_frame(words: &mut [u64], wanted: bool, frame: Frame)
+    ensures { λ r. ⌜ now (words .exit) ≡ cond (sized frameSize (now (words .entry)) && wanted) (frameWords frame) (now (words .entry)) ⌝ }
 {
-    let set = frame.set;
-    put_flags(words, set);
-    copy(&mut words[15..], &frame.val);
+    if words.len() == slices::FRAME {
+        if wanted {
+            let set = frame.set;
+            put_flags(words, set);
+            copy(&mut words[15..], &frame.val);
+        }
+    }
 }

@@ -3,7 +3,6 @@ ghost use mathlib.Core.Path.{_≡_};
 ghost use Rattle.name_object.specs.Component.{leadOk, digitOk, charOk};
 ghost use Rattle.klem_c.specs.Paths.{klemNameString};
 use crate::reply;
-use crate::slices;
 
 #[no_mangle]
 pub extern "C" fn klem_is_lead_name_char(byte: u8) -> bool
@@ -30,11 +29,8 @@ pub extern "C" fn klem_is_name_char(byte: u8) -> bool
 pub extern "C" fn klem_name_string(input: &[u8], out: &mut [u8], result: &mut [u64]) -> u64
     ensures { λ r. ⌜ record { number = r; result = now (result .exit); lent = now (out .exit) } ≡ klemNameString (now (input .entry)) (now (out .entry)) (now (result .entry)) ⌝ }
 {
-    if slices::fit_one(result.len(), out.len(), slices::PATH) {
-        let a = name_object::name_string(input);
-        let said = a.said;
-        let name = a.name;
-        return reply::tell_path(out, result, name, reply::name(said));
-    }
-    slices::BAD_SLICE
+    let a = name_object::name_string(input);
+    let said = a.said;
+    let name = a.name;
+    reply::tell_path(out, result, true, name, reply::name(said))
 }

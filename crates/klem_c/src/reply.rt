@@ -2,9 +2,7 @@
 ghost use mathlib.Core.Path.{_≡_};
 ghost use mathlib.Core.Bool.{_&&_, cond};
 ghost use mathlib.Core.List.{[], _∷_};
-ghost use Prim.Native.Nat.{_<_};
-ghost use lib.Dec.{eqb};
-ghost use lib.ListN.{length};
+ghost use lib.Dec.{eqb, ltb};
 ghost use Rattle.pkg_length.specs.Refusal.{gives, refuses, refused};
 ghost use Rattle.pkg_length.specs.Pkg.{rawSaid, lengthSaid, pkgSaid};
 ghost use Rattle.name_object.specs.Name.{nameSaid};
@@ -12,13 +10,15 @@ ghost use Rattle.path.specs.Normal.{pathSaid, flagSaid};
 ghost use Rattle.path.specs.Text.{textSaid};
 ghost use Rattle.namespace.specs.Calls.{editSaid, valueSaid, handleSaid};
 ghost use Rattle.namespace.specs.Search.{searchSaid, levelSaid};
+ghost use Rattle.statement.specs.Grammar.{cells};
 ghost use Rattle.statement.specs.Frames.{cellSaid};
 ghost use Rattle.statement.specs.Promise.{checkSaid, endSaid};
-ghost use Rattle.klem_c.specs.Result.{resultWords, resultOf, valued, nothing, one, flag, wordsOf};
+ghost use Rattle.klem_c.specs.Result.{badCell, resultWords, resultOf, valued, nothing, one, flag, sized, leaves, wordsOf};
 ghost use Rattle.klem_c.specs.Paths.{pathSize, pathBytes};
 ghost use Rattle.klem_c.specs.Lengths.{rawWords, lengthWords, pkgWords};
 ghost use Rattle.klem_c.specs.Tables.{hitWords};
 ghost use Rattle.klem_c.specs.Blocks.{runWords};
+use crate::frames;
 use crate::slices;
 use name_object::AmlName;
 use name_object::NameSaid;
@@ -38,6 +38,9 @@ use statement::CheckAnswer;
 use statement::End;
 use statement::frame::CellAnswer;
 
+// What klem_frame_set returns where a frame has no such cell.
+const BAD_CELL: u64 = 1003;
+
 // A refusal's number and place, or 0, 0 and up to three values.
 pub struct Reply {
     pub number: u64,
@@ -47,32 +50,44 @@ pub struct Reply {
     pub third: u64,
 }
 
-// Writes the result, and gives its first word.
-pub(crate) fn tell(result: &mut [u64], reply: Reply) -> u64
-    requires { ⌜ length (now result) ≡ resultWords ⌝ }
-    ensures { λ r. ⌜ (r ≡ reply .number) × (now (result .exit) ≡ wordsOf reply) ⌝ }
+// Writes the result and gives its first word, where it has its length and the other slices have theirs.
+pub(crate) fn tell(result: &mut [u64], others: bool, reply: Reply) -> u64
+    ensures { λ r. ⌜ record { number = r; result = now (result .exit); lent = [] } ≡ leaves (sized resultWords (now (result .entry)) && others) (now (result .entry)) [] (wordsOf reply) [] ⌝ }
 {
-    result[0] = reply.number;
-    result[1] = reply.place;
-    result[2] = reply.first;
-    result[3] = reply.second;
-    result[4] = reply.third;
-    result[5] = 0;
-    result[6] = 0;
-    result[7] = 0;
-    reply.number
+    if result.len() == slices::RESULT {
+        if others {
+            result[0] = reply.number;
+            result[1] = reply.place;
+            result[2] = reply.first;
+            result[3] = reply.second;
+            result[4] = reply.third;
+            result[5] = 0;
+            result[6] = 0;
+            result[7] = 0;
+            return reply.number;
+        }
+    }
+    slices::BAD_SLICE
 }
 
 // The same, and the path to `out` where there is one.
-pub(crate) fn tell_path(out: &mut [u8], result: &mut [u64], name: AmlName, reply: Reply) -> u64
-    requires { ⌜ (length (now out) ≡ pathSize) × (length (now result) ≡ resultWords) × (name .count < 65536) ⌝ }
-    ensures { λ r. ⌜ (r ≡ reply .number) × (now (result .exit) ≡ wordsOf reply) × (now (out .exit) ≡ cond (eqb (reply .number) 0) (pathBytes name) (now (out .entry))) ⌝ }
+pub(crate) fn tell_path(
+    out: &mut [u8],
+    result: &mut [u64],
+    others: bool,
+    name: AmlName,
+    reply: Reply,
+) -> u64
+    ensures { λ r. ⌜ record { number = r; result = now (result .exit); lent = now (out .exit) } ≡ leaves (sized resultWords (now (result .entry)) && (sized pathSize (now (out .entry)) && others)) (now (result .entry)) (now (out .entry)) (wordsOf reply) (cond (eqb (reply .number) 0) (pathBytes name) (now (out .entry))) ⌝ }
 {
-    if reply.number == 0 {
-        slices::put_path(out, name);
-        return tell(result, reply);
-    }
-    tell(result, reply)
+    let fit = slices::both(out.len() == slices::PATH, others);
+    let given = slices::both(fit, reply.number == 0);
+    slices::put_path(
+        out,
+        slices::both(result.len() == slices::RESULT, given),
+        name,
+    );
+    tell(result, fit, reply)
 }
 
 pub(crate) fn numbered(number: u64, place: u64) -> Reply
@@ -230,6 +245,16 @@ pub(crate) fn verdict(a: CheckAnswer) -> Reply
         CheckAnswer::Accepted => given(0, 0, 0),
         CheckAnswer::Refused(e) => refusal(e),
     }
+}
+
+// What klem_frame_set says of a cell.
+pub(crate) fn set_cell(cell: usize) -> Reply
+    ensures { λ r. ⌜ wordsOf r ≡ resultOf (cond (ltb cell cells) (gives []) (refuses badCell cell)) ⌝ }
+{
+    if cell < frames::CELLS {
+        return given(0, 0, 0);
+    }
+    numbered(BAD_CELL, cell as u64)
 }
 
 // How a run ended, with its units.

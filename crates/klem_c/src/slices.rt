@@ -1,59 +1,32 @@
 // Slices whose length is fixed, and paths in them.
 ghost use mathlib.Core.Path.{_≡_};
-ghost use mathlib.Core.Bool.{true, _&&_};
-ghost use Prim.Native.Nat.{_+_, _*_, _/_, _%_, _<_};
-ghost use lib.Dec.{eqb};
-ghost use lib.ListN.{length};
-ghost use Rattle.klem_c.specs.Result.{resultWords};
-ghost use Rattle.klem_c.specs.Paths.{pathSize, pathAt, pathBytes};
+ghost use mathlib.Core.Bool.{true, _&&_, cond};
+ghost use Prim.Native.Nat.{_+_, _*_, _/_, _%_};
+ghost use mathlib.Core.List.{[], _∷_};
+ghost use lib.ListN.{length, getD};
+ghost use Rattle.klem_c.specs.Result.{sized};
+ghost use Rattle.klem_c.specs.Paths.{pathSize, pathRoom, pathAt, pathBytes};
 use name_object::AmlName;
+use name_object::NameSeg;
 
 // What a call returns where a slice whose length is fixed has another.
 pub(crate) const BAD_SLICE: u64 = 1001;
 
 pub(crate) const PATH: usize = 130;
 
+// The bytes of a path's components.
+pub(crate) const BYTES: usize = 128;
+
 pub(crate) const FRAME: usize = 30;
 
-// A result.
-pub(crate) fn fit(result: usize) -> bool
-    ensures { λ r. ⌜ r ≡ eqb result resultWords ⌝ }
-{
-    result == 8
-}
+pub(crate) const RESULT: usize = 8;
 
-// A result and one more.
-pub(crate) fn fit_one(result: usize, a: usize, want: usize) -> bool
-    ensures { λ r. ⌜ (r ≡ (eqb result resultWords && eqb a want)) × (r ≡ true → (result ≡ resultWords) × (a ≡ want)) ⌝ }
+// Both tests hold.
+pub(crate) fn both(a: bool, b: bool) -> bool
+    ensures { λ r. ⌜ r ≡ (a && b) ⌝ }
 {
-    if result == 8 {
-        return a == want;
-    }
-    false
-}
-
-// A result, a path and one more.
-pub(crate) fn fit_two(result: usize, path: usize, a: usize, want: usize) -> bool
-    ensures { λ r. ⌜ (r ≡ (eqb result resultWords && (eqb path pathSize && eqb a want))) × (r ≡ true → (result ≡ resultWords) × (path ≡ pathSize) × (a ≡ want)) ⌝ }
-{
-    if result == 8 {
-        if path == PATH {
-            return a == want;
-        }
-    }
-    false
-}
-
-// A result and three paths.
-pub(crate) fn fit_three(result: usize, a: usize, b: usize, c: usize) -> bool
-    ensures { λ r. ⌜ (r ≡ (eqb result resultWords && (eqb a pathSize && (eqb b pathSize && eqb c pathSize)))) × (r ≡ true → (result ≡ resultWords) × (a ≡ pathSize) × (b ≡ pathSize) × (c ≡ pathSize)) ⌝ }
-{
-    if result == 8 {
-        if a == PATH {
-            if b == PATH {
-                return c == PATH;
-            }
-        }
+    if a {
+        return b;
     }
     false
 }
@@ -83,30 +56,58 @@ fn low(count: usize) -> u8
 }
 
 fn high(count: usize) -> u8
-    requires { ⌜ count < 65536 ⌝ }
-    ensures { λ r. ⌜ r ≡ count / 256 ⌝ }
+    ensures { λ r. ⌜ r ≡ count / 256 % 256 ⌝ }
 {
-    (count / 256) as u8
+    (count / 256 % 256) as u8
 }
 
-// The path that bytes hold.
-pub(crate) fn path_in(src: &[u8]) -> AmlName
-    requires { ⌜ length (now src) ≡ pathSize ⌝ }
-    ensures { λ r. ⌜ r ≡ pathAt (now (src .entry)) ⌝ }
+// A path's components, where they have their length.
+pub(crate) fn bytes_in(src: &[u8]) -> [u8; 128]
+    ensures { λ r. ⌜ (sized pathRoom (now (src .entry)) ≡ true → r ≡ now (src .entry)) ⌝ }
 {
     let mut bytes = [0; 128];
-    copy(&mut bytes, &src[2..]);
+    if src.len() == BYTES {
+        copy(&mut bytes, src);
+        return bytes;
+    }
+    bytes
+}
+
+// A segment, where it has its length.
+pub(crate) fn seg_in(src: &[u8]) -> NameSeg
+    ensures { λ r. ⌜ (sized 4 (now (src .entry)) ≡ true → r .0 ≡ getD (now (src .entry)) 0 0 ∷ getD (now (src .entry)) 1 0 ∷ getD (now (src .entry)) 2 0 ∷ getD (now (src .entry)) 3 0 ∷ []) ⌝ }
+{
+    if src.len() == 4 {
+        return NameSeg([src[0], src[1], src[2], src[3]]);
+    }
+    NameSeg([0, 0, 0, 0])
+}
+
+// The path that bytes hold, where they have their length.
+pub(crate) fn path_in(src: &[u8]) -> AmlName
+    ensures { λ r. ⌜ (sized pathSize (now (src .entry)) ≡ true → r ≡ pathAt (now (src .entry))) ⌝ }
+{
+    if src.len() == PATH {
+        return AmlName {
+            count: count_of(src[0], src[1]),
+            bytes: bytes_in(&src[2..]),
+        };
+    }
     AmlName {
-        count: count_of(src[0], src[1]),
-        bytes,
+        count: 0,
+        bytes: [0; 128],
     }
 }
 
-pub(crate) fn put_path(out: &mut [u8], name: AmlName)
-    requires { ⌜ (length (now out) ≡ pathSize) × (name .count < 65536) ⌝ }
-    ensures { λ r. ⌜ now (out .exit) ≡ pathBytes name ⌝ }
+// Writes the path where that is wanted and `out` has its length.
+pub(crate) fn put_path(out: &mut [u8], wanted: bool, name: AmlName)
+    ensures { λ r. ⌜ now (out .exit) ≡ cond (sized pathSize (now (out .entry)) && wanted) (pathBytes name) (now (out .entry)) ⌝ }
 {
-    out[0] = low(name.count);
-    out[1] = high(name.count);
-    copy(&mut out[2..], &name.bytes);
+    if out.len() == PATH {
+        if wanted {
+            out[0] = low(name.count);
+            out[1] = high(name.count);
+            copy(&mut out[2..], &name.bytes);
+        }
+    }
 }

@@ -37,9 +37,9 @@ pub extern "C" fn klem_well_formed(table: &[u64]) -> bool
 pub extern "C" fn klem_table_new(table: &mut [u64], result: &mut [u64]) -> u64
     ensures { λ r. ⌜ record { number = r; result = now (result .exit); lent = now (table .exit) } ≡ klemTableNew (now (table .entry)) (now (result .entry)) ⌝ }
 {
-    if slices::fit(result.len()) {
+    if result.len() == slices::RESULT {
         let a = namespace::new(table);
-        return reply::tell(result, reply::edit(a));
+        return reply::tell(result, true, reply::edit(a));
     }
     slices::BAD_SLICE
 }
@@ -53,12 +53,12 @@ pub extern "C" fn klem_add_level(
 ) -> u64
     ensures { λ r. ⌜ record { number = r; result = now (result .exit); lent = now (table .exit) } ≡ klemAddLevel (now (table .entry)) (now (path .entry)) typ (now (result .entry)) ⌝ }
 {
-    if slices::fit_one(result.len(), path.len(), slices::PATH) {
+    if slices::both(result.len() == slices::RESULT, path.len() == slices::PATH) {
         if 5 < typ {
-            return reply::tell(result, reply::numbered(BAD_TYPE, 0));
+            return reply::tell(result, true, reply::numbered(BAD_TYPE, 0));
         }
         let a = namespace::add_level(table, slices::path_in(path), level_type(typ));
-        return reply::tell(result, reply::edit(a));
+        return reply::tell(result, true, reply::edit(a));
     }
     slices::BAD_SLICE
 }
@@ -67,9 +67,9 @@ pub extern "C" fn klem_add_level(
 pub extern "C" fn klem_remove_level(table: &mut [u64], path: &[u8], result: &mut [u64]) -> u64
     ensures { λ r. ⌜ record { number = r; result = now (result .exit); lent = now (table .exit) } ≡ klemRemoveLevel (now (table .entry)) (now (path .entry)) (now (result .entry)) ⌝ }
 {
-    if slices::fit_one(result.len(), path.len(), slices::PATH) {
+    if slices::both(result.len() == slices::RESULT, path.len() == slices::PATH) {
         let a = namespace::remove_level(table, slices::path_in(path));
-        return reply::tell(result, reply::edit(a));
+        return reply::tell(result, true, reply::edit(a));
     }
     slices::BAD_SLICE
 }
@@ -83,9 +83,9 @@ pub extern "C" fn klem_add_value(
 ) -> u64
     ensures { λ r. ⌜ record { number = r; result = now (result .exit); lent = now (table .exit) } ≡ klemAddValue (now (table .entry)) (now (path .entry)) value (now (result .entry)) ⌝ }
 {
-    if slices::fit_one(result.len(), path.len(), slices::PATH) {
+    if slices::both(result.len() == slices::RESULT, path.len() == slices::PATH) {
         let a = namespace::add_value(table, slices::path_in(path), value);
-        return reply::tell(result, reply::handle(a));
+        return reply::tell(result, true, reply::handle(a));
     }
     slices::BAD_SLICE
 }
@@ -100,14 +100,17 @@ pub extern "C" fn klem_add_value_at_resolved_path(
 ) -> u64
     ensures { λ r. ⌜ record { number = r; result = now (result .exit); lent = now (table .exit) } ≡ klemAddValueAtResolvedPath (now (table .entry)) (now (path .entry)) (now (scope .entry)) value (now (result .entry)) ⌝ }
 {
-    if slices::fit_two(result.len(), path.len(), scope.len(), slices::PATH) {
+    if slices::both(
+        result.len() == slices::RESULT,
+        slices::both(path.len() == slices::PATH, scope.len() == slices::PATH),
+    ) {
         let a = namespace::add_value_at_resolved_path(
             table,
             slices::path_in(path),
             slices::path_in(scope),
             value,
         );
-        return reply::tell(result, reply::handle(a));
+        return reply::tell(result, true, reply::handle(a));
     }
     slices::BAD_SLICE
 }
@@ -122,14 +125,20 @@ pub extern "C" fn klem_add_alias_at_resolved_path(
 ) -> u64
     ensures { λ r. ⌜ record { number = r; result = now (result .exit); lent = now (table .exit) } ≡ klemAddAliasAtResolvedPath (now (table .entry)) (now (path .entry)) (now (scope .entry)) (now (target .entry)) (now (result .entry)) ⌝ }
 {
-    if slices::fit_three(result.len(), path.len(), scope.len(), target.len()) {
+    if slices::both(
+        result.len() == slices::RESULT,
+        slices::both(
+            path.len() == slices::PATH,
+            slices::both(scope.len() == slices::PATH, target.len() == slices::PATH),
+        ),
+    ) {
         let a = namespace::add_alias_at_resolved_path(
             table,
             slices::path_in(path),
             slices::path_in(scope),
             slices::path_in(target),
         );
-        return reply::tell(result, reply::handle(a));
+        return reply::tell(result, true, reply::handle(a));
     }
     slices::BAD_SLICE
 }
@@ -138,22 +147,20 @@ pub extern "C" fn klem_add_alias_at_resolved_path(
 pub extern "C" fn klem_get(table: &[u64], handle: u32, result: &mut [u64]) -> u64
     ensures { λ r. ⌜ record { number = r; result = now (result .exit); lent = [] } ≡ klemGet (now (table .entry)) handle (now (result .entry)) ⌝ }
 {
-    if slices::fit(result.len()) {
-        return reply::tell(
-            result,
-            reply::value(namespace::get(table, AmlHandle(handle))),
-        );
-    }
-    slices::BAD_SLICE
+    reply::tell(
+        result,
+        true,
+        reply::value(namespace::get(table, AmlHandle(handle))),
+    )
 }
 
 #[no_mangle]
 pub extern "C" fn klem_set(table: &mut [u64], handle: u32, value: u64, result: &mut [u64]) -> u64
     ensures { λ r. ⌜ record { number = r; result = now (result .exit); lent = now (table .exit) } ≡ klemSet (now (table .entry)) handle value (now (result .entry)) ⌝ }
 {
-    if slices::fit(result.len()) {
+    if result.len() == slices::RESULT {
         let a = namespace::set(table, AmlHandle(handle), value);
-        return reply::tell(result, reply::edit(a));
+        return reply::tell(result, true, reply::edit(a));
     }
     slices::BAD_SLICE
 }
@@ -162,26 +169,22 @@ pub extern "C" fn klem_set(table: &mut [u64], handle: u32, value: u64, result: &
 pub extern "C" fn klem_get_handle(table: &[u64], path: &[u8], result: &mut [u64]) -> u64
     ensures { λ r. ⌜ record { number = r; result = now (result .exit); lent = [] } ≡ klemGetHandle (now (table .entry)) (now (path .entry)) (now (result .entry)) ⌝ }
 {
-    if slices::fit_one(result.len(), path.len(), slices::PATH) {
-        return reply::tell(
-            result,
-            reply::handle(namespace::get_handle(table, slices::path_in(path))),
-        );
-    }
-    slices::BAD_SLICE
+    reply::tell(
+        result,
+        path.len() == slices::PATH,
+        reply::handle(namespace::get_handle(table, slices::path_in(path))),
+    )
 }
 
 #[no_mangle]
 pub extern "C" fn klem_get_by_path(table: &[u64], path: &[u8], result: &mut [u64]) -> u64
     ensures { λ r. ⌜ record { number = r; result = now (result .exit); lent = [] } ≡ klemGetByPath (now (table .entry)) (now (path .entry)) (now (result .entry)) ⌝ }
 {
-    if slices::fit_one(result.len(), path.len(), slices::PATH) {
-        return reply::tell(
-            result,
-            reply::value(namespace::get_by_path(table, slices::path_in(path))),
-        );
-    }
-    slices::BAD_SLICE
+    reply::tell(
+        result,
+        path.len() == slices::PATH,
+        reply::value(namespace::get_by_path(table, slices::path_in(path))),
+    )
 }
 
 #[no_mangle]
@@ -193,9 +196,9 @@ pub extern "C" fn klem_set_by_path(
 ) -> u64
     ensures { λ r. ⌜ record { number = r; result = now (result .exit); lent = now (table .exit) } ≡ klemSetByPath (now (table .entry)) (now (path .entry)) value (now (result .entry)) ⌝ }
 {
-    if slices::fit_one(result.len(), path.len(), slices::PATH) {
+    if slices::both(result.len() == slices::RESULT, path.len() == slices::PATH) {
         let a = namespace::set_by_path(table, slices::path_in(path), value);
-        return reply::tell(result, reply::edit(a));
+        return reply::tell(result, true, reply::edit(a));
     }
     slices::BAD_SLICE
 }
@@ -210,13 +213,16 @@ pub extern "C" fn klem_search(
 ) -> u64
     ensures { λ r. ⌜ record { number = r; result = now (result .exit); lent = now (out .exit) } ≡ klemSearch (now (table .entry)) (now (path .entry)) (now (scope .entry)) (now (out .entry)) (now (result .entry)) ⌝ }
 {
-    if slices::fit_three(result.len(), out.len(), path.len(), scope.len()) {
-        let a = namespace::search(table, slices::path_in(path), slices::path_in(scope));
-        let said = a.said;
-        let name = a.name;
-        return reply::tell_path(out, result, name, reply::found(said));
-    }
-    slices::BAD_SLICE
+    let a = namespace::search(table, slices::path_in(path), slices::path_in(scope));
+    let said = a.said;
+    let name = a.name;
+    reply::tell_path(
+        out,
+        result,
+        slices::both(path.len() == slices::PATH, scope.len() == slices::PATH),
+        name,
+        reply::found(said),
+    )
 }
 
 #[no_mangle]
@@ -229,11 +235,14 @@ pub extern "C" fn klem_search_for_level(
 ) -> u64
     ensures { λ r. ⌜ record { number = r; result = now (result .exit); lent = now (out .exit) } ≡ klemSearchForLevel (now (table .entry)) (now (path .entry)) (now (scope .entry)) (now (out .entry)) (now (result .entry)) ⌝ }
 {
-    if slices::fit_three(result.len(), out.len(), path.len(), scope.len()) {
-        let a = namespace::search_for_level(table, slices::path_in(path), slices::path_in(scope));
-        let said = a.said;
-        let name = a.name;
-        return reply::tell_path(out, result, name, reply::level(said));
-    }
-    slices::BAD_SLICE
+    let a = namespace::search_for_level(table, slices::path_in(path), slices::path_in(scope));
+    let said = a.said;
+    let name = a.name;
+    reply::tell_path(
+        out,
+        result,
+        slices::both(path.len() == slices::PATH, scope.len() == slices::PATH),
+        name,
+        reply::level(said),
+    )
 }

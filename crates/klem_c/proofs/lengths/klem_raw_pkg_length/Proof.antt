@@ -1,33 +1,15 @@
--- What the layer below says is told in words (`answered`).
--- Where the slices do not fit nothing is written.
-use Rattle.table.specs.Memory.{left}
-use mathlib.Core.Path.{refl, sym, _∙_}
-use borrow.Author.Tests.{eqb-true}
+-- What the layer below says is told in words (`answered-alone`).
+use Rattle.klem_c.specs.Lengths.{klemRawPkgLength, rawWords}
+use Rattle.klem_c.proofs.Results.{answered-alone}
 use borrow.Author.Needs.{needs}
-use Rattle.klem_c.specs.Lengths.{rawWords, klemRawPkgLength}
-use Rattle.klem_c.proofs.Results.{answered}
 use Rattle.klem_c.proofs.lengths.klem_raw_pkg_length.Statement.{statement}
 use Rattle.klem_c.proofs.lengths.klem_raw_pkg_length.Tie as tie
-
-tell-requires : tie.Need-tell-requires
-tell-requires c κs =
-    eqb-true _ _ (sym (c .before .before .before .before .fit .ensures) ∙ c .before .before .before .if1 .taken)
 
 returns : tie.Need-returns
 unfolding klemRawPkgLength
 returns c =
-    let at-tell = c .before .before in
-    let at-raw = at-tell .before in
-    let at-raw-pkg-length = at-raw .before in
-    let at-if1 = at-raw-pkg-length .before .before in
-    let at-fit = at-if1 .before in
-    answered _ _ _ _ (sym (at-fit .fit .ensures) ∙ at-if1 .if1 .taken) (at-tell .tell .ensures) (rawWords) (at-raw .raw .ensures)
-    (at-raw-pkg-length .raw-pkg-length .ensures) refl
-
-returns-2 : tie.Need-returns-2
-unfolding klemRawPkgLength
-returns-2 c = rw (sym (c .before .fit .ensures) ∙ c .if1 .left)
+    answered-alone rawWords (c .before .before .before .before .before .before .before .before .args .result .now) (c .before .before .before .raw .result) (c .before .before .tell .ensures) (c .before .before .before .raw .ensures) (c .before .before .before .before .raw-pkg-length .ensures)
 
 pub klem-raw-pkg-length-spec : {M : Type 1} → statement M
 klem-raw-pkg-length-spec =
-    tie.close (tie.spec (λ c κs. search needs) (λ c κs. search needs) (λ c κs. search needs) tell-requires (λ c. search needs) returns returns-2)
+    tie.close (tie.spec (λ c κs. search needs) (λ c κs. search needs) (λ c κs. search needs) (λ c. search needs) returns)

@@ -1,60 +1,28 @@
--- The path that the layer below gives goes to `out` with its count in one byte, since it has at most 32 components; a refusal leaves `out` (`named`).
--- Where the slices do not fit nothing is written.
-use Rattle.table.specs.Memory.{left}
-use mathlib.Core.Path.{_≡_, sym, _∙_}
-use lib.ListN.{length}
-use borrow.Author.Needs.{needs}
+-- The path that the layer below gives goes to `out`; a refusal leaves it (`named`).
+use mathlib.Core.Bool.{_&&_}
 use Rattle.pkg_length.specs.Refusal.{andThen}
 use Rattle.name_object.specs.Component.{componentLimit}
 use Rattle.name_object.specs.Memory.{pathIn}
 use Rattle.path.specs.Normal.{alone, resolved}
-use Rattle.klem_c.specs.Paths.{pathAt, klemResolve}
-use Rattle.klem_c.specs.Result.{nothing}
-use Rattle.klem_c.proofs.Results.{path-numbered, count-small, named}
+use Rattle.klem_c.specs.Result.{nothing, sized}
+use Rattle.klem_c.specs.Paths.{pathAt, pathSize, klemResolve}
+use Rattle.klem_c.proofs.Results.{both, named, path-numbered}
+use borrow.Author.Needs.{needs}
 use Rattle.klem_c.proofs.paths.klem_resolve.Statement.{statement}
 use Rattle.klem_c.proofs.paths.klem_resolve.Tie as tie
-
-path-in-requires : tie.Need-path-in-requires
-path-in-requires c κs = c .before .fit-three .ensures .1 (c .if1 .taken) .2
-
-path-in-requires-2 : tie.Need-path-in-requires-2
-path-in-requires-2 c κs = c .before .before .fit-three .ensures .1 (c .before .if1 .taken) .3
-
-tell-path-requires : tie.Need-tell-path-requires
-tell-path-requires c κs =
-    let l : length (c .before .before .before .before .resolve .result .name .bytes) ≡ 128 = search needs in
-    let at-resolve = c .before .before .before .before in
-    let at-path-in2 = at-resolve .before in
-    let at-path-in = at-path-in2 .before in
-    let at-if1 = at-path-in .before in
-    let at-fit-three = at-if1 .before in
-    let at-args = at-fit-three .before .before .before .before .before in (
-      at-fit-three .fit-three .ensures .1 (at-if1 .if1 .taken) .1,
-      at-fit-three .fit-three .ensures .1 (at-if1 .if1 .taken) .0,
-      count-small _ (alone (andThen (pathIn componentLimit (pathAt (at-args .args .path .now))) (λ cs. andThen (pathIn componentLimit (pathAt (at-args .args .scope .now))) (λ ss. resolved componentLimit cs ss)))) (rw (at-path-in .path-in .ensures, at-path-in2 .path-in2 .ensures) at (at-resolve .resolve .ensures)) l,
-    )
 
 returns : tie.Need-returns
 unfolding klemResolve
 returns c =
-    let at-tell-path = c .before .before .before .before in
-    let at-path = at-tell-path .before in
-    let at-resolve = at-path .before .before .before .before in
-    let at-path-in2 = at-resolve .before in
-    let at-path-in = at-path-in2 .before in
-    let at-if1 = at-path-in .before in
-    let at-fit-three = at-if1 .before in
-    let at-args = at-fit-three .before .before .before .before .before in
-    named nothing _ _ _ _ _ (sym (at-fit-three .fit-three .ensures .0) ∙ at-if1 .if1 .taken) (at-tell-path .tell-path .ensures) _
-    (alone (andThen (pathIn componentLimit (pathAt (at-args .args .path .now))) (λ cs. andThen (pathIn componentLimit (pathAt (at-args .args .scope .now))) (λ ss. resolved componentLimit cs ss))))
-    (path-numbered (at-resolve .resolve .result .said)) (at-path .path .ensures)
-    (rw (at-path-in .path-in .ensures, at-path-in2 .path-in2 .ensures) at (at-resolve .resolve .ensures))
-
-returns-2 : tie.Need-returns-2
-unfolding klemResolve
-returns-2 c = rw (sym (c .before .fit-three .ensures .0) ∙ c .if1 .left)
+    let a = c .before .before .before .before .before .before .before .before .before .before .before .before .before .before .before .before .before .args in
+    named nothing (sized pathSize (a .path .now) && sized pathSize (a .scope .now)) (a .result .now) (a .out .now) (c .before .before .before .before .before .path .result) _ _
+    (alone (andThen (pathIn componentLimit (pathAt (a .path .now))) (λ cs. andThen (pathIn componentLimit (pathAt (a .scope .now))) (λ ss. resolved componentLimit cs ss))))
+    (rw (c .before .before .before .before .before .before .both .ensures) at (c .before .before .before .before .tell-path .ensures)) (path-numbered (c .before .before .before .before .before .before .before .before .before .before .resolve .result .said)) (c .before .before .before .before .before .path .ensures)
+    (λ q.
+    let f = both (sized pathSize (a .path .now)) _ q in
+    rw (c .before .before .before .before .before .before .before .before .before .before .before .before .path-in .ensures (f .0), c .before .before .before .before .before .before .before .before .before .before .before .path-in2 .ensures (f .1)) at (c .before .before .before .before .before .before .before .before .before .before .resolve .ensures))
 
 pub klem-resolve-spec : {M : Type 1} → statement M
 klem-resolve-spec =
-    tie.close (tie.spec (λ c κs. search needs) path-in-requires path-in-requires-2 (λ c κs. search needs) (λ c κs. search needs) tell-path-requires
-    (λ c. search needs) (λ c. search needs) returns returns-2)
+    tie.close (tie.spec (λ c κs. search needs) (λ c κs. search needs) (λ c κs. search needs) (λ c κs. search needs) (λ c κs. search needs)
+    (λ c κs. search needs) (λ c. search needs) (λ c. search needs) returns)

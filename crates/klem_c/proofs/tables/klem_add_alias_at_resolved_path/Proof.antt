@@ -1,49 +1,31 @@
 -- The layer below leaves the table and says what is told of it (`edited`).
 -- Where the slices do not fit nothing is written.
-use Rattle.table.specs.Memory.{left}
 use mathlib.Core.Path.{sym, _∙_}
-use borrow.Author.Needs.{needs}
-use Rattle.klem_c.specs.Result.{one}
+use mathlib.Core.Bool.{_&&_}
+use Rattle.klem_c.specs.Result.{one, sized}
+use Rattle.klem_c.specs.Paths.{pathSize}
 use Rattle.klem_c.specs.Tables.{klemAddAliasAtResolvedPath}
-use Rattle.klem_c.proofs.Results.{edited}
+use Rattle.klem_c.proofs.Results.{both, edited}
+use borrow.Author.Needs.{needs}
 use Rattle.klem_c.proofs.tables.klem_add_alias_at_resolved_path.Statement.{statement}
 use Rattle.klem_c.proofs.tables.klem_add_alias_at_resolved_path.Tie as tie
-
-path-in-requires : tie.Need-path-in-requires
-path-in-requires c κs = c .before .before .fit-three .ensures .1 (c .before .if1 .taken) .1
-
-path-in-requires-2 : tie.Need-path-in-requires-2
-path-in-requires-2 c κs = c .before .before .before .fit-three .ensures .1 (c .before .before .if1 .taken) .2
-
-path-in-requires-3 : tie.Need-path-in-requires-3
-path-in-requires-3 c κs =
-    c .before .before .before .before .fit-three .ensures .1 (c .before .before .before .if1 .taken) .3
-
-tell-requires : tie.Need-tell-requires
-tell-requires c κs =
-    let at-if1 = c .before .before .before .before .before .before .before .before .before in
-    let at-fit-three = at-if1 .before in
-    at-fit-three .fit-three .ensures .1 (at-if1 .if1 .taken) .0
 
 returns : tie.Need-returns
 unfolding klemAddAliasAtResolvedPath
 returns c =
-    let at-tell = c .before .before in
-    let at-handle = at-tell .before in
-    let at-add-alias-at-resolved-path = at-handle .before .before .before .before in
-    let at-path-in3 = at-add-alias-at-resolved-path .before in
-    let at-path-in2 = at-path-in3 .before in
-    let at-path-in = at-path-in2 .before in
-    let at-if1 = at-path-in .before .before in
-    let at-fit-three = at-if1 .before in
-    edited _ _ _ _ (sym (at-fit-three .fit-three .ensures .0) ∙ at-if1 .if1 .taken) (at-tell .tell .ensures) one (at-handle .handle .ensures)
-    (rw (at-path-in .path-in .ensures, at-path-in2 .path-in2 .ensures, at-path-in3 .path-in3 .ensures) at (at-add-alias-at-resolved-path .add-alias-at-resolved-path .ensures))
+    let f = rw (c .before .before .before .before .before .before .before .before .before .before .before .before .before .before .both2 .ensures, c .before .before .before .before .before .before .before .before .before .before .before .before .before .before .before .both .ensures) at (c .before .before .before .before .before .before .before .before .before .before .before .before .before .both3 .ensures) in
+    edited _ (c .before .before .before .before .before .before .before .before .before .before .before .before .before .before .before .before .before .before .before .before .before .args .result .now) (c .before .before .before .before .before .before .before .before .before .before .before .before .before .before .before .before .before .before .before .before .before .args .table .now) (c .before .before .before .handle .result) (sym f ∙ c .before .before .before .before .before .before .before .before .before .before .before .before .if1 .taken) (c .before .before .tell .ensures) one (c .before .before .before .handle .ensures)
+    (λ q.
+    let g = both (sized pathSize (c .before .before .before .before .before .before .before .before .before .before .before .before .before .before .before .before .before .before .before .before .before .args .path .now)) (sized pathSize (c .before .before .before .before .before .before .before .before .before .before .before .before .before .before .before .before .before .before .before .before .before .args .scope .now) && sized pathSize (c .before .before .before .before .before .before .before .before .before .before .before .before .before .before .before .before .before .before .before .before .before .args .target .now)) q in
+    let h = both (sized pathSize (c .before .before .before .before .before .before .before .before .before .before .before .before .before .before .before .before .before .before .before .before .before .args .scope .now)) (sized pathSize (c .before .before .before .before .before .before .before .before .before .before .before .before .before .before .before .before .before .before .before .before .before .args .target .now)) (g .1) in
+    rw (c .before .before .before .before .before .before .before .before .before .before .path-in .ensures (g .0), c .before .before .before .before .before .before .before .before .before .path-in2 .ensures (h .0), c .before .before .before .before .before .before .before .before .path-in3 .ensures (h .1)) at (c .before .before .before .before .before .before .before .add-alias-at-resolved-path .ensures))
 
 returns-2 : tie.Need-returns-2
 unfolding klemAddAliasAtResolvedPath
-returns-2 c = rw (sym (c .before .fit-three .ensures .0) ∙ c .if1 .left)
+returns-2 c =
+    let f = rw (c .before .before .both2 .ensures, c .before .before .before .both .ensures) at (c .before .both3 .ensures) in rw (sym f ∙ c .if1 .left)
 
 pub klem-add-alias-at-resolved-path-spec : {M : Type 1} → statement M
 klem-add-alias-at-resolved-path-spec =
-    tie.close (tie.spec (λ c κs. search needs) path-in-requires path-in-requires-2 path-in-requires-3 (λ c κs. search needs) (λ c κs. search needs)
-    tell-requires (λ c. search needs) (λ c. search needs) returns returns-2)
+    tie.close (tie.spec (λ c κs. search needs) (λ c κs. search needs) (λ c κs. search needs) (λ c κs. search needs) (λ c κs. search needs)
+    (λ c κs. search needs) (λ c κs. search needs) (λ c κs. search needs) (λ c κs. search needs) (λ c. search needs) (λ c. search needs) returns returns-2)

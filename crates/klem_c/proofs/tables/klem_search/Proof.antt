@@ -1,58 +1,27 @@
--- The path that the layer below gives goes to `out` with its count in one byte, since it has at most 32 components; a refusal leaves `out` (`named`).
--- Where the slices do not fit nothing is written.
-use Rattle.table.specs.Memory.{left}
-use mathlib.Core.Path.{_≡_, sym, _∙_}
-use lib.ListN.{length}
-use borrow.Author.Needs.{needs}
+-- The path that the layer below gives goes to `out`; a refusal leaves it (`named`).
+use mathlib.Core.Bool.{_&&_}
 use Rattle.table.specs.Limits.{limits}
 use Rattle.namespace.specs.Search.{searchCall}
-use Rattle.klem_c.specs.Paths.{pathAt}
+use Rattle.klem_c.specs.Result.{sized}
+use Rattle.klem_c.specs.Paths.{pathAt, pathSize}
 use Rattle.klem_c.specs.Tables.{hitWords, klemSearch}
-use Rattle.klem_c.proofs.Results.{search-numbered, count-small, named}
+use Rattle.klem_c.proofs.Results.{both, named, search-numbered}
+use borrow.Author.Needs.{needs}
 use Rattle.klem_c.proofs.tables.klem_search.Statement.{statement}
 use Rattle.klem_c.proofs.tables.klem_search.Tie as tie
-
-path-in-requires : tie.Need-path-in-requires
-path-in-requires c κs = c .before .fit-three .ensures .1 (c .if1 .taken) .2
-
-path-in-requires-2 : tie.Need-path-in-requires-2
-path-in-requires-2 c κs = c .before .before .fit-three .ensures .1 (c .before .if1 .taken) .3
-
-tell-path-requires : tie.Need-tell-path-requires
-tell-path-requires c κs =
-    let l : length (c .before .before .before .before .search .result .name .bytes) ≡ 128 = search needs in
-    let at-search = c .before .before .before .before in
-    let at-path-in2 = at-search .before in
-    let at-path-in = at-path-in2 .before in
-    let at-if1 = at-path-in .before in
-    let at-fit-three = at-if1 .before in
-    let at-args = at-fit-three .before .before .before .before .before .before in (
-      at-fit-three .fit-three .ensures .1 (at-if1 .if1 .taken) .1,
-      at-fit-three .fit-three .ensures .1 (at-if1 .if1 .taken) .0,
-      count-small _ (searchCall limits (at-args .args .table .now) (pathAt (at-args .args .path .now)) (pathAt (at-args .args .scope .now))) (rw (at-path-in .path-in .ensures, at-path-in2 .path-in2 .ensures) at (at-search .search .ensures)) l,
-    )
 
 returns : tie.Need-returns
 unfolding klemSearch
 returns c =
-    let at-tell-path = c .before .before .before .before in
-    let at-found = at-tell-path .before in
-    let at-search = at-found .before .before .before .before in
-    let at-path-in2 = at-search .before in
-    let at-path-in = at-path-in2 .before in
-    let at-if1 = at-path-in .before in
-    let at-fit-three = at-if1 .before in
-    let at-args = at-fit-three .before .before .before .before .before .before in
-    named hitWords _ _ _ _ _ (sym (at-fit-three .fit-three .ensures .0) ∙ at-if1 .if1 .taken) (at-tell-path .tell-path .ensures) _
-    (searchCall limits (at-args .args .table .now) (pathAt (at-args .args .path .now)) (pathAt (at-args .args .scope .now)))
-    (search-numbered (at-search .search .result .said)) (at-found .found .ensures)
-    (rw (at-path-in .path-in .ensures, at-path-in2 .path-in2 .ensures) at (at-search .search .ensures))
-
-returns-2 : tie.Need-returns-2
-unfolding klemSearch
-returns-2 c = rw (sym (c .before .fit-three .ensures .0) ∙ c .if1 .left)
+    let a = c .before .before .before .before .before .before .before .before .before .before .before .before .before .before .before .before .before .before .args in
+    named hitWords (sized pathSize (a .path .now) && sized pathSize (a .scope .now)) (a .result .now) (a .out .now) (c .before .before .before .before .before .found .result) _ _
+    (searchCall limits (a .table .now) (pathAt (a .path .now)) (pathAt (a .scope .now)))
+    (rw (c .before .before .before .before .before .before .both .ensures) at (c .before .before .before .before .tell-path .ensures)) (search-numbered (c .before .before .before .before .before .before .before .before .before .before .search .result .said)) (c .before .before .before .before .before .found .ensures)
+    (λ q.
+    let f = both (sized pathSize (a .path .now)) _ q in
+    rw (c .before .before .before .before .before .before .before .before .before .before .before .before .path-in .ensures (f .0), c .before .before .before .before .before .before .before .before .before .before .before .path-in2 .ensures (f .1)) at (c .before .before .before .before .before .before .before .before .before .before .search .ensures))
 
 pub klem-search-spec : {M : Type 1} → statement M
 klem-search-spec =
-    tie.close (tie.spec (λ c κs. search needs) path-in-requires path-in-requires-2 (λ c κs. search needs) (λ c κs. search needs) tell-path-requires
-    (λ c. search needs) (λ c. search needs) returns returns-2)
+    tie.close (tie.spec (λ c κs. search needs) (λ c κs. search needs) (λ c κs. search needs) (λ c κs. search needs) (λ c κs. search needs)
+    (λ c κs. search needs) (λ c. search needs) (λ c. search needs) returns)

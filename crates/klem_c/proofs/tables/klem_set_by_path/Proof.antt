@@ -1,40 +1,25 @@
 -- The layer below leaves the table and says what is told of it (`edited`).
 -- Where the slices do not fit nothing is written.
-use Rattle.table.specs.Memory.{left}
 use mathlib.Core.Path.{sym, _∙_}
-use borrow.Author.Needs.{needs}
 use Rattle.klem_c.specs.Result.{nothing}
 use Rattle.klem_c.specs.Tables.{klemSetByPath}
 use Rattle.klem_c.proofs.Results.{edited}
+use borrow.Author.Needs.{needs}
 use Rattle.klem_c.proofs.tables.klem_set_by_path.Statement.{statement}
 use Rattle.klem_c.proofs.tables.klem_set_by_path.Tie as tie
-
-path-in-requires : tie.Need-path-in-requires
-path-in-requires c κs = c .before .before .fit-one .ensures .1 (c .before .if1 .taken) .1
-
-tell-requires : tie.Need-tell-requires
-tell-requires c κs =
-    let at-if1 = c .before .before .before .before .before .before .before in
-    let at-fit-one = at-if1 .before in
-    at-fit-one .fit-one .ensures .1 (at-if1 .if1 .taken) .0
 
 returns : tie.Need-returns
 unfolding klemSetByPath
 returns c =
-    let at-tell = c .before .before in
-    let at-edit = at-tell .before in
-    let at-set-by-path = at-edit .before .before .before .before in
-    let at-path-in = at-set-by-path .before in
-    let at-if1 = at-path-in .before .before in
-    let at-fit-one = at-if1 .before in
-    edited _ _ _ _ (sym (at-fit-one .fit-one .ensures .0) ∙ at-if1 .if1 .taken) (at-tell .tell .ensures) nothing (at-edit .edit .ensures)
-    (rw (at-path-in .path-in .ensures) at (at-set-by-path .set-by-path .ensures))
+    let a = c .before .before .before .before .before .before .before .before .before .before .before .before .before .before .before .args in
+    edited _ (a .result .now) (a .table .now) (c .before .before .before .edit .result) (sym (c .before .before .before .before .before .before .before .before .before .before .before .both .ensures) ∙ c .before .before .before .before .before .before .before .before .before .before .if1 .taken) (c .before .before .tell .ensures) nothing (c .before .before .before .edit .ensures)
+    (λ q. rw (c .before .before .before .before .before .before .before .before .path-in .ensures q) at (c .before .before .before .before .before .before .before .set-by-path .ensures))
 
 returns-2 : tie.Need-returns-2
 unfolding klemSetByPath
-returns-2 c = rw (sym (c .before .fit-one .ensures .0) ∙ c .if1 .left)
+returns-2 c = rw (sym (c .before .both .ensures) ∙ c .if1 .left)
 
 pub klem-set-by-path-spec : {M : Type 1} → statement M
 klem-set-by-path-spec =
-    tie.close (tie.spec (λ c κs. search needs) path-in-requires (λ c κs. search needs) (λ c κs. search needs) tell-requires (λ c. search needs)
+    tie.close (tie.spec (λ c κs. search needs) (λ c κs. search needs) (λ c κs. search needs) (λ c κs. search needs) (λ c κs. search needs) (λ c. search needs)
     (λ c. search needs) returns returns-2)
