@@ -6,7 +6,9 @@ use Rattle.klem_c.proofs.blocks.klem_check.Tie as tie
 
 returns : tie.Need-returns
 returns c =
-    check-left _ (c .before .before .before .before .before .before .before .before .args .result .now) (c .before .before .before .verdict .result) _ (c .before .before .before .before .check .ensures) (c .before .before .tell .ensures) (c .before .before .before .verdict .ensures)
+    let at-tell = c .before .before in let at-verdict = at-tell .before in let at-check = at-verdict .before in
+    let at-args = at-check .before .before .before .before in
+    check-left _ (at-args .args .result .now) (at-verdict .verdict .result) _ (at-check .check .ensures) (at-tell .tell .ensures) (at-verdict .verdict .ensures)
 
 pub klem-check-spec : {M : Type 1} → statement M
 klem-check-spec =

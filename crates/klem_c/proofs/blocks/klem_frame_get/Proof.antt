@@ -9,7 +9,10 @@ use Rattle.klem_c.proofs.blocks.klem_frame_get.Tie as tie
 returns : tie.Need-returns
 unfolding klemFrameGet
 returns c =
-    answered one _ (c .before .before .before .before .before .before .before .before .before .args .result .now) (c .before .before .before .cell .result) (c .before .before .tell .ensures) (c .before .before .before .cell .ensures) (λ q. rw (c .before .before .before .before .before .before .frame-in .ensures q) at (c .before .before .before .before .get .ensures))
+    let at-tell = c .before .before in let at-cell = at-tell .before in let at-get = at-cell .before in let at-frame-in = at-get .before .before in
+    let at-args = at-frame-in .before .before .before in
+    answered one _ (at-args .args .result .now) (at-cell .cell .result) (at-tell .tell .ensures) (at-cell .cell .ensures)
+    (λ q. rw (at-frame-in .frame-in .ensures q) at (at-get .get .ensures))
 
 pub klem-frame-get-spec : {M : Type 1} → statement M
 klem-frame-get-spec =

@@ -14,9 +14,12 @@ use Rattle.klem_c.proofs.blocks.klem_frame_new.Tie as tie
 returns : tie.Need-returns
 unfolding klemFrameNew
 returns c =
-    let a = c .before .before .before .before .before .before .before .before .before .before .before .before .args in
-    beside (sized resultWords (a .result .now) && sized frameSize (a .frame .now)) (a .result .now) (a .frame .now) (resultOf (gives [])) (frameWords fresh) (rw (c .before .before .before .given .ensures) at (c .before .before .tell .ensures))
-    ((rw (c .before .before .before .before .before .before .before .before .new .ensures) at (c .before .before .before .before .before .before .before .put-frame .ensures)) ∙ turned-alone (sized resultWords (a .result .now)) (sized frameSize (a .frame .now)) _ _)
+    let at-tell = c .before .before in let at-given = at-tell .before in let at-put-frame = at-given .before .before .before .before in
+    let at-new = at-put-frame .before in let at-args = at-new .before .before .before .before in
+    let a = at-args .args in
+    beside (sized resultWords (a .result .now) && sized frameSize (a .frame .now)) (a .result .now) (a .frame .now) (resultOf (gives [])) (frameWords fresh)
+    (rw (at-given .given .ensures) at (at-tell .tell .ensures))
+    ((rw (at-new .new .ensures) at (at-put-frame .put-frame .ensures)) ∙ turned-alone (sized resultWords (a .result .now)) (sized frameSize (a .frame .now)) _ _)
 
 pub klem-frame-new-spec : {M : Type 1} → statement M
 klem-frame-new-spec =

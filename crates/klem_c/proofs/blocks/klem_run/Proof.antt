@@ -8,8 +8,13 @@ use Rattle.klem_c.proofs.blocks.klem_run.Tie as tie
 
 returns : tie.Need-returns
 returns c =
-    run-left _ (c .before .before .before .before .before .before .before .before .before .before .before .before .before .before .before .before .before .before .args .frame .now) _ (c .before .before .before .before .before .before .before .before .before .before .before .before .before .before .before .before .before .before .args .result .now) (c .before .before .before .end .result) (c .before .before .before .before .before .before .before .before .before .before .run .result) (sym (c .before .before .before .before .before .before .before .before .before .before .before .before .before .before .both .ensures) ∙ c .before .before .before .before .before .before .before .before .before .before .before .before .before .if1 .taken) (λ q. rw (c .before .before .before .before .before .before .before .before .before .before .before .frame-in .ensures q) at (c .before .before .before .before .before .before .before .before .before .before .run .ensures)) (c .before .before .tell .ensures) (c .before .before .before .end .ensures)
-    (c .before .before .before .before .before .before .before .put-frame .ensures)
+    let at-tell = c .before .before in let at-end = at-tell .before in let at-put-frame = at-end .before .before .before .before in
+    let at-run = at-put-frame .before .before .before in let at-frame-in = at-run .before in let at-if1 = at-frame-in .before .before in
+    let at-both = at-if1 .before in let at-args = at-both .before .before .before .before in
+    run-left _ (at-args .args .frame .now) _ (at-args .args .result .now) (at-end .end .result) (at-run .run .result)
+    (sym (at-both .both .ensures) ∙ at-if1 .if1 .taken) (λ q. rw (at-frame-in .frame-in .ensures q) at (at-run .run .ensures)) (at-tell .tell .ensures)
+    (at-end .end .ensures)
+    (at-put-frame .put-frame .ensures)
 
 returns-2 : tie.Need-returns-2
 returns-2 c = run-unfit _ _ _ _ (sym (c .before .both .ensures) ∙ c .if1 .left)

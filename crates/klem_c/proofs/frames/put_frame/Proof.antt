@@ -10,9 +10,12 @@ use Rattle.klem_c.proofs.frames.put_frame.Tie as tie
 
 returns : tie.Need-returns
 returns c =
-    let l : length (c .before .before .before .before .before .before .before .before .before .before .before .before .before .before .before .args .t3 .set) ≡ cells = search needs in
-    rw (eq-eqb _ _ (c .before .before .before .before .before .before .before .before .before .before .before .before .before .if1 .taken), c .before .before .before .before .before .before .before .before .before .before .before .before .if2 .taken)
-    (put-frame (c .before .before .before .before .before .before .before .before .before .before .before .before .before .before .before .args .words .now) (c .before .before .before .before .before .before .before .before .before .put-flags .last .0) (c .before .before .copy .last .0) (c .before .before .before .before .before .before .before .before .before .before .before .before .before .before .before .args .t3) l (c .before .before .before .before .before .before .before .before .before .before .before .before .before .if1 .taken) (c .before .before .before .before .before .before .before .before .before .put-flags .ensures) (c .before .before .copy .ensures))
+    let l : length (c .before .before .before .before .before .before .before .before .before .before .before .before .before .before .before .args .t3 .set) ≡ cells =
+    search needs in
+    let at-copy = c .before .before in let at-put-flags = at-copy .before .before .before .before .before .before .before in
+    let at-if2 = at-put-flags .before .before .before in let at-if1 = at-if2 .before in let at-args = at-if1 .before .before in
+    rw (eq-eqb _ _ (at-if1 .if1 .taken), at-if2 .if2 .taken)
+    (put-frame (at-args .args .words .now) (at-put-flags .put-flags .last .0) (at-copy .copy .last .0) (at-args .args .t3) l (at-if1 .if1 .taken) (at-put-flags .put-flags .ensures) (at-copy .copy .ensures))
 
 returns-2 : tie.Need-returns-2
 returns-2 c = rw (eq-eqb _ _ (c .before .if1 .taken), c .if2 .left)

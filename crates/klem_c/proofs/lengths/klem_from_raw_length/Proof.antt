@@ -8,7 +8,10 @@ use Rattle.klem_c.proofs.lengths.klem_from_raw_length.Tie as tie
 returns : tie.Need-returns
 unfolding klemFromRawLength
 returns c =
-    answered-alone lengthWords (c .before .before .before .before .before .before .before .before .args .result .now) (c .before .before .before .fitted .result) (c .before .before .tell .ensures) (c .before .before .before .fitted .ensures) (c .before .before .before .before .from-raw-length .ensures)
+    let at-tell = c .before .before in let at-fitted = at-tell .before in let at-from-raw-length = at-fitted .before in
+    let at-args = at-from-raw-length .before .before .before .before in
+    answered-alone lengthWords (at-args .args .result .now) (at-fitted .fitted .result) (at-tell .tell .ensures) (at-fitted .fitted .ensures)
+    (at-from-raw-length .from-raw-length .ensures)
 
 pub klem-from-raw-length-spec : {M : Type 1} → statement M
 klem-from-raw-length-spec =

@@ -8,7 +8,9 @@ use Rattle.klem_c.proofs.lengths.klem_pkg_length.Tie as tie
 returns : tie.Need-returns
 unfolding klemPkgLength
 returns c =
-    answered-alone pkgWords (c .before .before .before .before .before .before .before .before .args .result .now) (c .before .before .before .pkg .result) (c .before .before .tell .ensures) (c .before .before .before .pkg .ensures) (c .before .before .before .before .pkg-length .ensures)
+    let at-tell = c .before .before in let at-pkg = at-tell .before in let at-pkg-length = at-pkg .before in
+    let at-args = at-pkg-length .before .before .before .before in
+    answered-alone pkgWords (at-args .args .result .now) (at-pkg .pkg .result) (at-tell .tell .ensures) (at-pkg .pkg .ensures) (at-pkg-length .pkg-length .ensures)
 
 pub klem-pkg-length-spec : {M : Type 1} → statement M
 klem-pkg-length-spec =

@@ -8,7 +8,9 @@ use Rattle.klem_c.proofs.lengths.klem_raw_pkg_length.Tie as tie
 returns : tie.Need-returns
 unfolding klemRawPkgLength
 returns c =
-    answered-alone rawWords (c .before .before .before .before .before .before .before .before .args .result .now) (c .before .before .before .raw .result) (c .before .before .tell .ensures) (c .before .before .before .raw .ensures) (c .before .before .before .before .raw-pkg-length .ensures)
+    let at-tell = c .before .before in let at-raw = at-tell .before in let at-raw-pkg-length = at-raw .before in
+    let at-args = at-raw-pkg-length .before .before .before .before in
+    answered-alone rawWords (at-args .args .result .now) (at-raw .raw .result) (at-tell .tell .ensures) (at-raw .raw .ensures) (at-raw-pkg-length .raw-pkg-length .ensures)
 
 pub klem-raw-pkg-length-spec : {M : Type 1} → statement M
 klem-raw-pkg-length-spec =

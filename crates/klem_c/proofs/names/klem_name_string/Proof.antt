@@ -11,7 +11,10 @@ use Rattle.klem_c.proofs.names.klem_name_string.Tie as tie
 returns : tie.Need-returns
 unfolding klemNameString
 returns c =
-    named-alone one (c .before .before .before .before .before .before .before .before .before .before .before .before .before .args .result .now) (c .before .before .before .before .before .before .before .before .before .before .before .before .before .args .out .now) (c .before .before .before .before .before .name2 .result) _ _ (nameString componentLimit (c .before .before .before .before .before .before .before .before .before .before .before .before .before .args .input .now)) (c .before .before .before .before .tell-path .ensures) (name-numbered (c .before .before .before .before .before .before .before .before .before .name-string .result .said)) (c .before .before .before .before .before .name2 .ensures) (c .before .before .before .before .before .before .before .before .before .name-string .ensures)
+    let at-tell-path = c .before .before .before .before in let at-name2 = at-tell-path .before in
+    let at-name-string = at-name2 .before .before .before .before in let at-args = at-name-string .before .before .before .before in
+    named-alone one (at-args .args .result .now) (at-args .args .out .now) (at-name2 .name2 .result) _ _ (nameString componentLimit (at-args .args .input .now))
+    (at-tell-path .tell-path .ensures) (name-numbered (at-name-string .name-string .result .said)) (at-name2 .name2 .ensures) (at-name-string .name-string .ensures)
 
 pub klem-name-string-spec : {M : Type 1} → statement M
 klem-name-string-spec =

@@ -10,9 +10,13 @@ use Rattle.klem_c.proofs.paths.klem_as_string.Tie as tie
 returns : tie.Need-returns
 unfolding klemAsString
 returns c =
-    let a = c .before .before .before .before .before .before .before .before .before .before .before .before .before .before .before .args in
-    written _ (a .result .now) (a .text .now) (c .before .before .before .text2 .result) (sym (c .before .before .before .before .before .before .before .before .before .before .before .both .ensures) ∙ c .before .before .before .before .before .before .before .before .before .before .if1 .taken) (c .before .before .tell .ensures) (c .before .before .before .text2 .ensures)
-    (λ q. rw (c .before .before .before .before .before .before .before .before .before .path-in .ensures q) at (c .before .before .before .before .before .before .before .as-string .ensures))
+    let at-tell = c .before .before in let at-text2 = at-tell .before in let at-as-string = at-text2 .before .before .before .before in
+    let at-path-in = at-as-string .before .before in let at-if1 = at-path-in .before in let at-both = at-if1 .before in
+    let at-args = at-both .before .before .before .before in
+    let a = at-args .args in
+    written _ (a .result .now) (a .text .now) (at-text2 .text2 .result) (sym (at-both .both .ensures) ∙ at-if1 .if1 .taken) (at-tell .tell .ensures)
+    (at-text2 .text2 .ensures)
+    (λ q. rw (at-path-in .path-in .ensures q) at (at-as-string .as-string .ensures))
 
 returns-2 : tie.Need-returns-2
 unfolding klemAsString

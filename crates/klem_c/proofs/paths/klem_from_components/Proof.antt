@@ -12,8 +12,13 @@ use Rattle.klem_c.proofs.paths.klem_from_components.Tie as tie
 returns : tie.Need-returns
 unfolding klemFromComponents
 returns c =
-    let a = c .before .before .before .before .before .before .before .before .before .before .before .before .before .before .args in
-    named nothing _ (a .result .now) (a .out .now) (c .before .before .before .before .before .path .result) _ _ (alone (pathIn componentLimit (record { count = a .count; bytes = a .bytes .now }))) (c .before .before .before .before .tell-path .ensures) (path-numbered (c .before .before .before .before .before .before .before .before .before .from-components .result .said)) (c .before .before .before .before .before .path .ensures) (λ q. rw (c .before .before .before .before .before .before .before .before .before .before .bytes-in .ensures q) at (c .before .before .before .before .before .before .before .before .before .from-components .ensures))
+    let at-tell-path = c .before .before .before .before in let at-path = at-tell-path .before in
+    let at-from-components = at-path .before .before .before .before in let at-bytes-in = at-from-components .before in
+    let at-args = at-bytes-in .before .before .before .before in
+    let a = at-args .args in
+    named nothing _ (a .result .now) (a .out .now) (at-path .path .result) _ _ (alone (pathIn componentLimit (record { count = a .count; bytes = a .bytes .now })))
+    (at-tell-path .tell-path .ensures) (path-numbered (at-from-components .from-components .result .said)) (at-path .path .ensures)
+    (λ q. rw (at-bytes-in .bytes-in .ensures q) at (at-from-components .from-components .ensures))
 
 pub klem-from-components-spec : {M : Type 1} → statement M
 klem-from-components-spec =

@@ -10,8 +10,13 @@ use Rattle.klem_c.proofs.paths.klem_from_name_seg.Tie as tie
 returns : tie.Need-returns
 unfolding klemFromNameSeg
 returns c =
-    let a = c .before .before .before .before .before .before .before .before .before .before .before .before .before .before .args in
-    named nothing _ (a .result .now) (a .out .now) (c .before .before .before .before .before .path .result) _ _ (alone (segmentPath (a .seg .now))) (c .before .before .before .before .tell-path .ensures) (path-numbered (c .before .before .before .before .before .before .before .before .before .from-name-seg .result .said)) (c .before .before .before .before .before .path .ensures) (λ q. rw (c .before .before .before .before .before .before .before .before .before .before .seg-in .ensures q, four) at (c .before .before .before .before .before .before .before .before .before .from-name-seg .ensures))
+    let at-tell-path = c .before .before .before .before in let at-path = at-tell-path .before in
+    let at-from-name-seg = at-path .before .before .before .before in let at-seg-in = at-from-name-seg .before in
+    let at-args = at-seg-in .before .before .before .before in
+    let a = at-args .args in
+    named nothing _ (a .result .now) (a .out .now) (at-path .path .result) _ _ (alone (segmentPath (a .seg .now))) (at-tell-path .tell-path .ensures)
+    (path-numbered (at-from-name-seg .from-name-seg .result .said)) (at-path .path .ensures)
+    (λ q. rw (at-seg-in .seg-in .ensures q, four) at (at-from-name-seg .from-name-seg .ensures))
 
 pub klem-from-name-seg-spec : {M : Type 1} → statement M
 klem-from-name-seg-spec =

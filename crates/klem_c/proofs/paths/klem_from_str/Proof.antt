@@ -12,7 +12,10 @@ use Rattle.klem_c.proofs.paths.klem_from_str.Tie as tie
 returns : tie.Need-returns
 unfolding klemFromStr
 returns c =
-    named-alone nothing (c .before .before .before .before .before .before .before .before .before .before .before .before .before .args .result .now) (c .before .before .before .before .before .before .before .before .before .before .before .before .before .args .out .now) (c .before .before .before .before .before .path .result) _ _ (alone (fromText componentLimit (c .before .before .before .before .before .before .before .before .before .before .before .before .before .args .text .now))) (c .before .before .before .before .tell-path .ensures) (path-numbered (c .before .before .before .before .before .before .before .before .before .from-str .result .said)) (c .before .before .before .before .before .path .ensures) (c .before .before .before .before .before .before .before .before .before .from-str .ensures)
+    let at-tell-path = c .before .before .before .before in let at-path = at-tell-path .before in
+    let at-from-str = at-path .before .before .before .before in let at-args = at-from-str .before .before .before .before in
+    named-alone nothing (at-args .args .result .now) (at-args .args .out .now) (at-path .path .result) _ _ (alone (fromText componentLimit (at-args .args .text .now)))
+    (at-tell-path .tell-path .ensures) (path-numbered (at-from-str .from-str .result .said)) (at-path .path .ensures) (at-from-str .from-str .ensures)
 
 pub klem-from-str-spec : {M : Type 1} → statement M
 klem-from-str-spec =

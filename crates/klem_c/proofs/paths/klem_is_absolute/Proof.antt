@@ -9,7 +9,10 @@ use Rattle.klem_c.proofs.paths.klem_is_absolute.Tie as tie
 returns : tie.Need-returns
 unfolding klemIsAbsolute
 returns c =
-    answered (λ b. one (flag b)) _ (c .before .before .before .before .before .before .before .before .before .args .result .now) (c .before .before .before .test .result) (c .before .before .tell .ensures) (c .before .before .before .test .ensures) (λ q. rw (c .before .before .before .before .before .path-in .ensures q) at (c .before .before .before .before .is-absolute .ensures))
+    let at-tell = c .before .before in let at-test = at-tell .before in let at-is-absolute = at-test .before in let at-path-in = at-is-absolute .before in
+    let at-args = at-path-in .before .before .before .before in
+    answered (λ b. one (flag b)) _ (at-args .args .result .now) (at-test .test .result) (at-tell .tell .ensures) (at-test .test .ensures)
+    (λ q. rw (at-path-in .path-in .ensures q) at (at-is-absolute .is-absolute .ensures))
 
 pub klem-is-absolute-spec : {M : Type 1} → statement M
 klem-is-absolute-spec =

@@ -9,7 +9,10 @@ use Rattle.klem_c.proofs.paths.klem_is_normal.Tie as tie
 returns : tie.Need-returns
 unfolding klemIsNormal
 returns c =
-    answered (λ b. one (flag b)) _ (c .before .before .before .before .before .before .before .before .before .args .result .now) (c .before .before .before .test .result) (c .before .before .tell .ensures) (c .before .before .before .test .ensures) (λ q. rw (c .before .before .before .before .before .path-in .ensures q) at (c .before .before .before .before .is-normal .ensures))
+    let at-tell = c .before .before in let at-test = at-tell .before in let at-is-normal = at-test .before in let at-path-in = at-is-normal .before in
+    let at-args = at-path-in .before .before .before .before in
+    answered (λ b. one (flag b)) _ (at-args .args .result .now) (at-test .test .result) (at-tell .tell .ensures) (at-test .test .ensures)
+    (λ q. rw (at-path-in .path-in .ensures q) at (at-is-normal .is-normal .ensures))
 
 pub klem-is-normal-spec : {M : Type 1} → statement M
 klem-is-normal-spec =

@@ -13,8 +13,13 @@ use Rattle.klem_c.proofs.paths.klem_normalize.Tie as tie
 returns : tie.Need-returns
 unfolding klemNormalize
 returns c =
-    let a = c .before .before .before .before .before .before .before .before .before .before .before .before .before .before .args in
-    named nothing _ (a .result .now) (a .out .now) (c .before .before .before .before .before .path .result) _ _ (alone (andThen (pathIn componentLimit (pathAt (a .path .now))) (normal componentLimit))) (c .before .before .before .before .tell-path .ensures) (path-numbered (c .before .before .before .before .before .before .before .before .before .normalize .result .said)) (c .before .before .before .before .before .path .ensures) (λ q. rw (c .before .before .before .before .before .before .before .before .before .before .path-in .ensures q) at (c .before .before .before .before .before .before .before .before .before .normalize .ensures))
+    let at-tell-path = c .before .before .before .before in let at-path = at-tell-path .before in
+    let at-normalize = at-path .before .before .before .before in let at-path-in = at-normalize .before in
+    let at-args = at-path-in .before .before .before .before in
+    let a = at-args .args in
+    named nothing _ (a .result .now) (a .out .now) (at-path .path .result) _ _ (alone (andThen (pathIn componentLimit (pathAt (a .path .now))) (normal componentLimit)))
+    (at-tell-path .tell-path .ensures) (path-numbered (at-normalize .normalize .result .said)) (at-path .path .ensures)
+    (λ q. rw (at-path-in .path-in .ensures q) at (at-normalize .normalize .ensures))
 
 pub klem-normalize-spec : {M : Type 1} → statement M
 klem-normalize-spec =

@@ -13,8 +13,13 @@ use Rattle.klem_c.proofs.paths.klem_parent.Tie as tie
 returns : tie.Need-returns
 unfolding klemParent
 returns c =
-    let a = c .before .before .before .before .before .before .before .before .before .before .before .before .before .before .args in
-    named nothing _ (a .result .now) (a .out .now) (c .before .before .before .before .before .path .result) _ _ (alone (andThen (pathIn componentLimit (pathAt (a .path .now))) (parentOf componentLimit))) (c .before .before .before .before .tell-path .ensures) (path-numbered (c .before .before .before .before .before .before .before .before .before .parent .result .said)) (c .before .before .before .before .before .path .ensures) (λ q. rw (c .before .before .before .before .before .before .before .before .before .before .path-in .ensures q) at (c .before .before .before .before .before .before .before .before .before .parent .ensures))
+    let at-tell-path = c .before .before .before .before in let at-path = at-tell-path .before in
+    let at-parent = at-path .before .before .before .before in let at-path-in = at-parent .before in
+    let at-args = at-path-in .before .before .before .before in
+    let a = at-args .args in
+    named nothing _ (a .result .now) (a .out .now) (at-path .path .result) _ _
+    (alone (andThen (pathIn componentLimit (pathAt (a .path .now))) (parentOf componentLimit))) (at-tell-path .tell-path .ensures)
+    (path-numbered (at-parent .parent .result .said)) (at-path .path .ensures) (λ q. rw (at-path-in .path-in .ensures q) at (at-parent .parent .ensures))
 
 pub klem-parent-spec : {M : Type 1} → statement M
 klem-parent-spec =

@@ -14,7 +14,10 @@ use Rattle.klem_c.proofs.paths.klem_root.Tie as tie
 returns : tie.Need-returns
 unfolding klemRoot
 returns c =
-    named-alone nothing (c .before .before .before .before .before .before .before .before .before .before .before .args .result .now) (c .before .before .before .before .before .before .before .before .before .before .before .args .out .now) (c .before .before .before .before .before .given .result) _ (gives tt) (alone (gives (root ∷ []))) (c .before .before .before .before .tell-path .ensures) tt (ap wordsOf (c .before .before .before .before .before .given .ensures)) (root-told (c .before .before .before .before .before .before .root .ensures))
+    let at-tell-path = c .before .before .before .before in let at-given = at-tell-path .before in let at-root = at-given .before in
+    let at-args = at-root .before .before .before .before .before in
+    named-alone nothing (at-args .args .result .now) (at-args .args .out .now) (at-given .given .result) _ (gives tt) (alone (gives (root ∷ [])))
+    (at-tell-path .tell-path .ensures) tt (ap wordsOf (at-given .given .ensures)) (root-told (at-root .root .ensures))
 
 pub klem-root-spec : {M : Type 1} → statement M
 klem-root-spec =

@@ -22,7 +22,9 @@ slice-write-result-8 c = simp length-set (omega arith)
 
 returns : tie.Need-returns
 returns c =
-    rw (eq-eqb _ _ (c .before .if1 .taken), c .if2 .taken) (λ i. record { number = c .before .before .args .reply .number; result = eight (c .before .before .args .result .now) (c .before .before .args .reply) (c .before .if1 .taken) i; lent = [] })
+    let at-if1 = c .before in let at-args = at-if1 .before in
+    rw (eq-eqb _ _ (at-if1 .if1 .taken), c .if2 .taken)
+    (λ i. record { number = at-args .args .reply .number; result = eight (at-args .args .result .now) (at-args .args .reply) (at-if1 .if1 .taken) i; lent = [] })
 
 returns-2 : tie.Need-returns-2
 returns-2 c = rw (eq-eqb _ _ (c .before .if1 .taken), c .if2 .left)

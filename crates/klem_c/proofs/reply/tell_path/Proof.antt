@@ -11,9 +11,12 @@ use Rattle.klem_c.proofs.reply.tell_path.Tie as tie
 
 returns : tie.Need-returns
 returns c =
-    let a = c .before .before .before .before .before .before .before .before .before .before .before .before .before .before .args in
-    beside (sized resultWords (a .result .now) && (sized pathSize (a .out .now) && a .others)) (a .result .now) (a .out .now) (wordsOf (a .reply)) (cond (eqb (a .reply .number) 0) (pathBytes (a .name)) (a .out .now)) (rw (c .before .before .before .before .before .before .before .before .before .before .before .both .ensures) at (c .before .before .tell .ensures))
-    ((rw (c .before .before .before .before .before .before .before .both3 .ensures, c .before .before .before .before .before .before .before .before .before .both2 .ensures, c .before .before .before .before .before .before .before .before .before .before .before .both .ensures) at (c .before .before .before .before .before .before .put-path .ensures)) ∙ two-tests (sized resultWords (a .result .now)) (sized pathSize (a .out .now)) (a .others) _ _ _)
+    let at-tell = c .before .before in let at-put-path = at-tell .before .before .before .before in let at-both3 = at-put-path .before in
+    let at-both2 = at-both3 .before .before in let at-both = at-both2 .before .before in let at-args = at-both .before .before .before in
+    let a = at-args .args in
+    beside (sized resultWords (a .result .now) && (sized pathSize (a .out .now) && a .others)) (a .result .now) (a .out .now) (wordsOf (a .reply))
+    (cond (eqb (a .reply .number) 0) (pathBytes (a .name)) (a .out .now)) (rw (at-both .both .ensures) at (at-tell .tell .ensures))
+    ((rw (at-both3 .both3 .ensures, at-both2 .both2 .ensures, at-both .both .ensures) at (at-put-path .put-path .ensures)) ∙ two-tests (sized resultWords (a .result .now)) (sized pathSize (a .out .now)) (a .others) _ _ _)
 
 pub tell-path-spec : {M : Type 1} → statement M
 tell-path-spec =

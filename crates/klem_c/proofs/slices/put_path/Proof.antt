@@ -23,12 +23,17 @@ copy-requires c κs =
 same-length : tie.Need-same-length
 same-length c =
     let l : length (c .before .before .before .before .before .before .before .before .before .before .before .before .args .t3 .bytes) ≡ 128 = search needs in
-    omega (arith, ap length (put-path (c .before .before .before .before .before .before .before .before .before .before .before .before .args .out .now) (c .before .before .copy .last .0) (c .before .before .before .before .before .before .before .before .low .result) (c .before .before .before .before .before .before .before .high .result) (omega arith)), ap length (c .before .before .copy .ensures))
+    let at-copy = c .before .before in let at-high = at-copy .before .before .before .before .before in let at-low = at-high .before in
+    let at-args = at-low .before .before .before .before in
+    omega
+    (arith, ap length (put-path (at-args .args .out .now) (at-copy .copy .last .0) (at-low .low .result) (at-high .high .result) (omega arith)), ap length (at-copy .copy .ensures))
 
 returns : tie.Need-returns
 returns c =
-    rw (eq-eqb _ _ (c .before .before .before .before .before .before .before .before .before .before .if1 .taken), c .before .before .before .before .before .before .before .before .before .if2 .taken)
-    (put-path (c .before .before .before .before .before .before .before .before .before .before .before .before .args .out .now) (c .before .before .copy .last .0) (c .before .before .before .before .before .before .before .before .low .result) (c .before .before .before .before .before .before .before .high .result) (omega arith) ∙ (λ i. c .before .before .before .before .before .before .before .before .low .ensures i ∷ (c .before .before .before .before .before .before .before .high .ensures i ∷ c .before .before .copy .ensures i)))
+    let at-copy = c .before .before in let at-high = at-copy .before .before .before .before .before in let at-low = at-high .before in
+    let at-if2 = at-low .before in let at-if1 = at-if2 .before in let at-args = at-if1 .before .before in
+    rw (eq-eqb _ _ (at-if1 .if1 .taken), at-if2 .if2 .taken)
+    (put-path (at-args .args .out .now) (at-copy .copy .last .0) (at-low .low .result) (at-high .high .result) (omega arith) ∙ (λ i. at-low .low .ensures i ∷ (at-high .high .ensures i ∷ at-copy .copy .ensures i)))
 
 returns-2 : tie.Need-returns-2
 returns-2 c = rw (eq-eqb _ _ (c .before .if1 .taken), c .if2 .left)

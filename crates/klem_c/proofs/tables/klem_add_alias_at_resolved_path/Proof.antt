@@ -13,12 +13,18 @@ use Rattle.klem_c.proofs.tables.klem_add_alias_at_resolved_path.Tie as 
 returns : tie.Need-returns
 unfolding klemAddAliasAtResolvedPath
 returns c =
-    let f = rw (c .before .before .before .before .before .before .before .before .before .before .before .before .before .before .both2 .ensures, c .before .before .before .before .before .before .before .before .before .before .before .before .before .before .before .both .ensures) at (c .before .before .before .before .before .before .before .before .before .before .before .before .before .both3 .ensures) in
-    edited _ (c .before .before .before .before .before .before .before .before .before .before .before .before .before .before .before .before .before .before .before .before .before .args .result .now) (c .before .before .before .before .before .before .before .before .before .before .before .before .before .before .before .before .before .before .before .before .before .args .table .now) (c .before .before .before .handle .result) (sym f ∙ c .before .before .before .before .before .before .before .before .before .before .before .before .if1 .taken) (c .before .before .tell .ensures) one (c .before .before .before .handle .ensures)
+    let at-tell = c .before .before in let at-handle = at-tell .before in let at-add-alias-at-resolved-path = at-handle .before .before .before .before in
+    let at-path-in3 = at-add-alias-at-resolved-path .before in let at-path-in2 = at-path-in3 .before in let at-path-in = at-path-in2 .before in
+    let at-if1 = at-path-in .before .before in let at-both3 = at-if1 .before in let at-both2 = at-both3 .before in let at-both = at-both2 .before in
+    let at-args = at-both .before .before .before .before .before .before in
+    let f = rw (at-both2 .both2 .ensures, at-both .both .ensures) at (at-both3 .both3 .ensures) in
+    edited _ (at-args .args .result .now) (at-args .args .table .now) (at-handle .handle .result) (sym f ∙ at-if1 .if1 .taken) (at-tell .tell .ensures) one
+    (at-handle .handle .ensures)
     (λ q.
-    let g = both (sized pathSize (c .before .before .before .before .before .before .before .before .before .before .before .before .before .before .before .before .before .before .before .before .before .args .path .now)) (sized pathSize (c .before .before .before .before .before .before .before .before .before .before .before .before .before .before .before .before .before .before .before .before .before .args .scope .now) && sized pathSize (c .before .before .before .before .before .before .before .before .before .before .before .before .before .before .before .before .before .before .before .before .before .args .target .now)) q in
-    let h = both (sized pathSize (c .before .before .before .before .before .before .before .before .before .before .before .before .before .before .before .before .before .before .before .before .before .args .scope .now)) (sized pathSize (c .before .before .before .before .before .before .before .before .before .before .before .before .before .before .before .before .before .before .before .before .before .args .target .now)) (g .1) in
-    rw (c .before .before .before .before .before .before .before .before .before .before .path-in .ensures (g .0), c .before .before .before .before .before .before .before .before .before .path-in2 .ensures (h .0), c .before .before .before .before .before .before .before .before .path-in3 .ensures (h .1)) at (c .before .before .before .before .before .before .before .add-alias-at-resolved-path .ensures))
+    let g = both (sized pathSize (at-args .args .path .now)) (sized pathSize (at-args .args .scope .now) && sized pathSize (at-args .args .target .now)) q in
+    let h = both (sized pathSize (at-args .args .scope .now)) (sized pathSize (at-args .args .target .now)) (g .1) in
+    rw (at-path-in .path-in .ensures (g .0), at-path-in2 .path-in2 .ensures (h .0), at-path-in3 .path-in3 .ensures (h .1)) at
+    (at-add-alias-at-resolved-path .add-alias-at-resolved-path .ensures))
 
 returns-2 : tie.Need-returns-2
 unfolding klemAddAliasAtResolvedPath

@@ -12,14 +12,20 @@ use Rattle.klem_c.proofs.tables.klem_add_level.Tie as tie
 returns : tie.Need-returns
 unfolding klemAddLevel
 returns c =
-    rw (lt-leb _ _ (c .before .before .before .before .before .if2 .taken)) (tells _ (c .before .before .before .before .before .before .before .before .before .before .before .args .result .now) (c .before .before .before .before .before .before .before .before .before .before .before .args .table .now) (c .before .before .before .numbered .result) (sym (c .before .before .before .before .before .before .before .both .ensures) ∙ c .before .before .before .before .before .before .if1 .taken) (c .before .before .tell .ensures) (c .before .before .before .numbered .ensures) refl)
+    let at-tell = c .before .before in let at-numbered = at-tell .before in let at-if2 = at-numbered .before .before in let at-if1 = at-if2 .before in
+    let at-both = at-if1 .before in let at-args = at-both .before .before .before .before in
+    rw (lt-leb _ _ (at-if2 .if2 .taken))
+    (tells _ (at-args .args .result .now) (at-args .args .table .now) (at-numbered .numbered .result) (sym (at-both .both .ensures) ∙ at-if1 .if1 .taken) (at-tell .tell .ensures) (at-numbered .numbered .ensures) refl)
 
 returns-2 : tie.Need-returns-2
 unfolding klemAddLevel
 returns-2 c =
-    rw (le-leb _ _ (c .before .before .before .before .before .before .before .before .before .before .before .if2 .left))
-    (edited _ (c .before .before .before .before .before .before .before .before .before .before .before .before .before .before .before .before .before .args .result .now) (c .before .before .before .before .before .before .before .before .before .before .before .before .before .before .before .before .before .args .table .now) (c .before .before .before .edit .result) (sym (c .before .before .before .before .before .before .before .before .before .before .before .before .before .both .ensures) ∙ c .before .before .before .before .before .before .before .before .before .before .before .before .if1 .taken) (c .before .before .tell2 .ensures) nothing (c .before .before .before .edit .ensures)
-    (λ q. rw (c .before .before .before .before .before .before .before .before .before .path-in .ensures q, c .before .before .before .before .before .before .before .before .level-type .ensures) at (c .before .before .before .before .before .before .before .add-level .ensures)))
+    let at-tell2 = c .before .before in let at-edit = at-tell2 .before in let at-add-level = at-edit .before .before .before .before in
+    let at-level-type = at-add-level .before in let at-path-in = at-level-type .before in let at-if2 = at-path-in .before .before in
+    let at-if1 = at-if2 .before in let at-both = at-if1 .before in let at-args = at-both .before .before .before .before in
+    rw (le-leb _ _ (at-if2 .if2 .left))
+    (edited _ (at-args .args .result .now) (at-args .args .table .now) (at-edit .edit .result) (sym (at-both .both .ensures) ∙ at-if1 .if1 .taken) (at-tell2 .tell2 .ensures) nothing (at-edit .edit .ensures)
+    (λ q. rw (at-path-in .path-in .ensures q, at-level-type .level-type .ensures) at (at-add-level .add-level .ensures)))
 
 returns-3 : tie.Need-returns-3
 unfolding klemAddLevel

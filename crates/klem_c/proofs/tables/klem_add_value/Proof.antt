@@ -11,9 +11,13 @@ use Rattle.klem_c.proofs.tables.klem_add_value.Tie as tie
 returns : tie.Need-returns
 unfolding klemAddValue
 returns c =
-    let a = c .before .before .before .before .before .before .before .before .before .before .before .before .before .before .before .args in
-    edited _ (a .result .now) (a .table .now) (c .before .before .before .handle .result) (sym (c .before .before .before .before .before .before .before .before .before .before .before .both .ensures) ∙ c .before .before .before .before .before .before .before .before .before .before .if1 .taken) (c .before .before .tell .ensures) one (c .before .before .before .handle .ensures)
-    (λ q. rw (c .before .before .before .before .before .before .before .before .path-in .ensures q) at (c .before .before .before .before .before .before .before .add-value .ensures))
+    let at-tell = c .before .before in let at-handle = at-tell .before in let at-add-value = at-handle .before .before .before .before in
+    let at-path-in = at-add-value .before in let at-if1 = at-path-in .before .before in let at-both = at-if1 .before in
+    let at-args = at-both .before .before .before .before in
+    let a = at-args .args in
+    edited _ (a .result .now) (a .table .now) (at-handle .handle .result) (sym (at-both .both .ensures) ∙ at-if1 .if1 .taken) (at-tell .tell .ensures) one
+    (at-handle .handle .ensures)
+    (λ q. rw (at-path-in .path-in .ensures q) at (at-add-value .add-value .ensures))
 
 returns-2 : tie.Need-returns-2
 unfolding klemAddValue

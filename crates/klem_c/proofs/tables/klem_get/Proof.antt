@@ -9,7 +9,9 @@ use Rattle.klem_c.proofs.tables.klem_get.Tie as tie
 returns : tie.Need-returns
 unfolding klemGet
 returns c =
-    answered-alone one (c .before .before .before .before .before .before .before .before .args .result .now) (c .before .before .before .value .result) (c .before .before .tell .ensures) (c .before .before .before .value .ensures) (c .before .before .before .before .get .ensures)
+    let at-tell = c .before .before in let at-value = at-tell .before in let at-get = at-value .before in
+    let at-args = at-get .before .before .before .before in
+    answered-alone one (at-args .args .result .now) (at-value .value .result) (at-tell .tell .ensures) (at-value .value .ensures) (at-get .get .ensures)
 
 pub klem-get-spec : {M : Type 1} → statement M
 klem-get-spec =

@@ -9,7 +9,10 @@ use Rattle.klem_c.proofs.tables.klem_get_handle.Tie as tie
 returns : tie.Need-returns
 unfolding klemGetHandle
 returns c =
-    answered one _ (c .before .before .before .before .before .before .before .before .before .before .args .result .now) (c .before .before .before .handle .result) (c .before .before .tell .ensures) (c .before .before .before .handle .ensures) (λ q. rw (c .before .before .before .before .before .path-in .ensures q) at (c .before .before .before .before .get-handle .ensures))
+    let at-tell = c .before .before in let at-handle = at-tell .before in let at-get-handle = at-handle .before in
+    let at-path-in = at-get-handle .before in let at-args = at-path-in .before .before .before .before .before in
+    answered one _ (at-args .args .result .now) (at-handle .handle .result) (at-tell .tell .ensures) (at-handle .handle .ensures)
+    (λ q. rw (at-path-in .path-in .ensures q) at (at-get-handle .get-handle .ensures))
 
 pub klem-get-handle-spec : {M : Type 1} → statement M
 klem-get-handle-spec =

@@ -13,13 +13,16 @@ use Rattle.klem_c.proofs.tables.klem_search.Tie as tie
 returns : tie.Need-returns
 unfolding klemSearch
 returns c =
-    let a = c .before .before .before .before .before .before .before .before .before .before .before .before .before .before .before .before .before .before .args in
-    named hitWords (sized pathSize (a .path .now) && sized pathSize (a .scope .now)) (a .result .now) (a .out .now) (c .before .before .before .before .before .found .result) _ _
+    let at-tell-path = c .before .before .before .before in let at-found = at-tell-path .before in let at-both = at-found .before in
+    let at-search = at-both .before .before .before .before in let at-path-in2 = at-search .before in let at-path-in = at-path-in2 .before in
+    let at-args = at-path-in .before .before .before .before .before .before in
+    let a = at-args .args in
+    named hitWords (sized pathSize (a .path .now) && sized pathSize (a .scope .now)) (a .result .now) (a .out .now) (at-found .found .result) _ _
     (searchCall limits (a .table .now) (pathAt (a .path .now)) (pathAt (a .scope .now)))
-    (rw (c .before .before .before .before .before .before .both .ensures) at (c .before .before .before .before .tell-path .ensures)) (search-numbered (c .before .before .before .before .before .before .before .before .before .before .search .result .said)) (c .before .before .before .before .before .found .ensures)
+    (rw (at-both .both .ensures) at (at-tell-path .tell-path .ensures)) (search-numbered (at-search .search .result .said)) (at-found .found .ensures)
     (λ q.
     let f = both (sized pathSize (a .path .now)) _ q in
-    rw (c .before .before .before .before .before .before .before .before .before .before .before .before .path-in .ensures (f .0), c .before .before .before .before .before .before .before .before .before .before .before .path-in2 .ensures (f .1)) at (c .before .before .before .before .before .before .before .before .before .before .search .ensures))
+    rw (at-path-in .path-in .ensures (f .0), at-path-in2 .path-in2 .ensures (f .1)) at (at-search .search .ensures))
 
 pub klem-search-spec : {M : Type 1} → statement M
 klem-search-spec =

@@ -13,13 +13,16 @@ use Rattle.klem_c.proofs.tables.klem_search_for_level.Tie as tie
 returns : tie.Need-returns
 unfolding klemSearchForLevel
 returns c =
-    let a = c .before .before .before .before .before .before .before .before .before .before .before .before .before .before .before .before .before .before .args in
-    named one (sized pathSize (a .path .now) && sized pathSize (a .scope .now)) (a .result .now) (a .out .now) (c .before .before .before .before .before .level .result) _ _
+    let at-tell-path = c .before .before .before .before in let at-level = at-tell-path .before in let at-both = at-level .before in
+    let at-search-for-level = at-both .before .before .before .before in let at-path-in2 = at-search-for-level .before in
+    let at-path-in = at-path-in2 .before in let at-args = at-path-in .before .before .before .before .before .before in
+    let a = at-args .args in
+    named one (sized pathSize (a .path .now) && sized pathSize (a .scope .now)) (a .result .now) (a .out .now) (at-level .level .result) _ _
     (levelCall limits (a .table .now) (pathAt (a .path .now)) (pathAt (a .scope .now)))
-    (rw (c .before .before .before .before .before .before .both .ensures) at (c .before .before .before .before .tell-path .ensures)) (level-numbered (c .before .before .before .before .before .before .before .before .before .before .search-for-level .result .said)) (c .before .before .before .before .before .level .ensures)
+    (rw (at-both .both .ensures) at (at-tell-path .tell-path .ensures)) (level-numbered (at-search-for-level .search-for-level .result .said)) (at-level .level .ensures)
     (λ q.
     let f = both (sized pathSize (a .path .now)) _ q in
-    rw (c .before .before .before .before .before .before .before .before .before .before .before .before .path-in .ensures (f .0), c .before .before .before .before .before .before .before .before .before .before .before .path-in2 .ensures (f .1)) at (c .before .before .before .before .before .before .before .before .before .before .search-for-level .ensures))
+    rw (at-path-in .path-in .ensures (f .0), at-path-in2 .path-in2 .ensures (f .1)) at (at-search-for-level .search-for-level .ensures))
 
 pub klem-search-for-level-spec : {M : Type 1} → statement M
 klem-search-for-level-spec =

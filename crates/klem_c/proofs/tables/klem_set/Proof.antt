@@ -11,7 +11,10 @@ use Rattle.klem_c.proofs.tables.klem_set.Tie as tie
 returns : tie.Need-returns
 unfolding klemSet
 returns c =
-    edited-alone nothing (c .before .before .before .before .before .before .before .before .before .before .before .before .args .result .now) (c .before .before .before .before .before .before .before .before .before .before .before .before .args .table .now) (c .before .before .before .edit .result) (eq-eqb _ _ (c .before .before .before .before .before .before .before .before .before .if1 .taken)) (c .before .before .tell .ensures) (c .before .before .before .edit .ensures) (c .before .before .before .before .before .before .before .set .ensures)
+    let at-tell = c .before .before in let at-edit = at-tell .before in let at-set = at-edit .before .before .before .before in
+    let at-if1 = at-set .before .before in let at-args = at-if1 .before .before .before in
+    edited-alone nothing (at-args .args .result .now) (at-args .args .table .now) (at-edit .edit .result) (eq-eqb _ _ (at-if1 .if1 .taken)) (at-tell .tell .ensures)
+    (at-edit .edit .ensures) (at-set .set .ensures)
 
 returns-2 : tie.Need-returns-2
 unfolding klemSet

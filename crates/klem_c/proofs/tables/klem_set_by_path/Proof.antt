@@ -11,9 +11,13 @@ use Rattle.klem_c.proofs.tables.klem_set_by_path.Tie as tie
 returns : tie.Need-returns
 unfolding klemSetByPath
 returns c =
-    let a = c .before .before .before .before .before .before .before .before .before .before .before .before .before .before .before .args in
-    edited _ (a .result .now) (a .table .now) (c .before .before .before .edit .result) (sym (c .before .before .before .before .before .before .before .before .before .before .before .both .ensures) ∙ c .before .before .before .before .before .before .before .before .before .before .if1 .taken) (c .before .before .tell .ensures) nothing (c .before .before .before .edit .ensures)
-    (λ q. rw (c .before .before .before .before .before .before .before .before .path-in .ensures q) at (c .before .before .before .before .before .before .before .set-by-path .ensures))
+    let at-tell = c .before .before in let at-edit = at-tell .before in let at-set-by-path = at-edit .before .before .before .before in
+    let at-path-in = at-set-by-path .before in let at-if1 = at-path-in .before .before in let at-both = at-if1 .before in
+    let at-args = at-both .before .before .before .before in
+    let a = at-args .args in
+    edited _ (a .result .now) (a .table .now) (at-edit .edit .result) (sym (at-both .both .ensures) ∙ at-if1 .if1 .taken) (at-tell .tell .ensures) nothing
+    (at-edit .edit .ensures)
+    (λ q. rw (at-path-in .path-in .ensures q) at (at-set-by-path .set-by-path .ensures))
 
 returns-2 : tie.Need-returns-2
 unfolding klemSetByPath
