@@ -167,3 +167,25 @@ pub fn short_blocks() -> Vec<Vec<u8>> {
     ];
     blocks.iter().map(|b| b.to_vec()).collect()
 }
+
+/// Short blocks with a fault that the Rust finds too: it comes to it as it runs.
+pub fn short_faults() -> Vec<Vec<u8>> {
+    let blocks: [&[u8]; 8] = [
+        &[0xFE],                                                                                           // no opcode
+        &[0xA4],                                                                                           // a Return that ends
+        &[0xA4, 0x0B, 0x34],                                                                               // a word of one byte
+        &[0xA0, 0x06, 0x01, 0xA3],                                                                         // an If longer than the block
+        &[0x70, 0x0A, 0x03, 0x60, 0xA2, 0x0F, 0x60, 0x76, 0x60],                                           // a While longer than the block
+        &[0x70, 0x0A, 0x03, 0x60, 0xA2, 0x04, 0x60, 0x76, 0x60, 0xFE],                                     // after a While
+        &[0x70, 0x0B, 0x34, 0x12, 0x60, 0x7B, 0x60, 0x0A, 0xFF, 0x61, 0x70, 0x61],                         // a Store without its target
+        &[0x70, 0x0A, 0x05, 0x60, 0xA0, 0x06, 0x93, 0x60, 0x0A, 0x05, 0xA3, 0xA1, 0x02, 0xA3, 0x75, 0xFE], // after an If with its else
+    ];
+    blocks.iter().map(|b| b.to_vec()).collect()
+}
+
+/// The block of so many bytes, with no opcode in its last byte.
+pub fn late_fault(size: usize) -> Vec<u8> {
+    let mut block = block_of(size);
+    block[size - 1] = 0xFE;
+    block
+}

@@ -1,15 +1,20 @@
 //! The port and the Rust crate aml 0.16.4 on the same inputs, in one process.
 //!
-//!   klem-bench                          every row: both sides' answers are compared, then both are timed
-//!   klem-bench --list                   the rows' numbers, names and calls
-//!   klem-bench --one ROW SIDE CALLS     CALLS calls of one side (port or rust) of one row, for a counter of instructions
+//!   klem-bench --list                   the rows: number, calls for a count, `both` or `apart`, name
+//!   klem-bench --time ROUNDS            every row timed: row, side, calls, the least nanoseconds of the rounds
+//!   klem-bench --count                  every row, each side with N calls and with 2N, between marks that bench/icount.c counts by
+//!   klem-bench --one ROW SIDE CALLS     CALLS calls of one side (port or rust) of one row, for valgrind
 //!
-//! A row's two sides make the same calls on the same inputs. What a call needs that is no part of it (a path to give away, which the
-//! Rust takes by value) is made before the clock starts.
+//! A row's two sides make the same calls on the same inputs, and before a row is measured their answers on every input are compared. What
+//! a call needs that is no part of it (a path to give away, which the Rust takes by value) is made before the clock starts.
+//! bench/table.py makes the table.
 mod inputs;
 mod rows;
 
-use std::time::{Duration, Instant};
+use std::{
+    arch::asm,
+    time::{Duration, Instant},
+};
 
 /// One side of a row: makes that many calls, and says how long they took.
 pub type Side = Box<dyn FnMut(usize) -> Duration>;
@@ -18,20 +23,58 @@ pub struct Row {
     pub name: String,
     /// Calls in a round.
     pub calls: usize,
+    /// Calls after which the inputs come around again.
+    pub inputs: usize,
+    /// The Rust has no such call and does something else: the row is not counted as ahead or behind.
+    pub apart: bool,
     /// Compares the answers of both sides on every input of the row.
     pub same: Box<dyn FnMut() -> Result<usize, String>>,
     pub port: Side,
     pub rust: Side,
 }
 
-/// The only place where the clock runs; a counter of instructions counts inside it alone, which is why it has a plain name and is
-/// not inlined.
+impl Row {
+    // Few calls are enough for a count, and the inputs come around whole.
+    fn counted_calls(&self) -> usize {
+        self.inputs * (self.calls.min(1_000) / self.inputs).max(1)
+    }
+}
+
+/// The only place where the clock runs and where instructions are counted: between the two marks, or by valgrind inside this function
+/// alone, which is why it has a plain name and is not inlined.
 #[no_mangle]
 #[inline(never)]
 pub fn klem_bench_timed(work: &mut dyn FnMut()) -> Duration {
+    mark();
     let start = Instant::now();
     work();
-    start.elapsed()
+    let took = start.elapsed();
+    mark();
+    took
+}
+
+/// The mark that bench/icount.c looks for: a system call that no system has. Every system refuses it, and nothing more happens.
+const MARK: i64 = 0x6B6C_656D;
+
+static MARKED: std::sync::atomic::AtomicBool = std::sync::atomic::AtomicBool::new(false);
+
+fn mark() {
+    if MARKED.load(std::sync::atomic::Ordering::Relaxed) {
+        // SAFETY: the number is no system call's, and there are no arguments.
+        unsafe { syscall(MARK) };
+    }
+}
+
+extern "C" {
+    fn syscall(number: i64, ...) -> i64;
+}
+
+/// What goes through here, the compiler knows nothing of: std's `black_box`, which compilers before 1.66 do not have.
+#[inline(always)]
+pub fn black_box<T>(mut value: T) -> T {
+    // SAFETY: there is no instruction in it.
+    unsafe { asm!("/* {0} */", in(reg) &mut value, options(nostack, preserves_flags)) };
+    value
 }
 
 fn main() {
@@ -40,14 +83,38 @@ fn main() {
         let args: Vec<String> = std::env::args().skip(1).collect();
         let args: Vec<&str> = args.iter().map(String::as_str).collect();
         match args[..] {
-            [] => every_row(25),
-            ["--rounds", n] => every_row(n.parse().expect("a number of rounds")),
             ["--list"] => {
                 for (i, row) in rows::rows().iter().enumerate() {
-                    println!("{i} {} {}", row.calls, row.name);
+                    println!("{i} {} {} {}", row.counted_calls(), if row.apart { "apart" } else { "both" }, row.name);
                 }
                 0
             }
+            ["--time", rounds] => {
+                let rounds = rounds.parse().expect("a number of rounds");
+                every_row(|i, row| {
+                    // The sides take turns, so that both see the same machine; the least of the rounds is the one that was disturbed least.
+                    let (mut port, mut rust) = (Duration::MAX, Duration::MAX);
+                    for _ in 0..rounds {
+                        port = port.min((row.port)(row.calls));
+                        rust = rust.min((row.rust)(row.calls));
+                    }
+                    println!("{i} port {} {}", row.calls, port.as_nanos());
+                    println!("{i} rust {} {}", row.calls, rust.as_nanos());
+                })
+            }
+            ["--count"] => every_row(|i, row| {
+                let n = row.counted_calls();
+                for (name, side) in [("port", &mut row.port), ("rust", &mut row.rust)] {
+                    // once unmarked, so that what is done at the first call alone is done
+                    side(n);
+                    for calls in [n, 2 * n] {
+                        println!("{i} {name} {calls}");
+                        MARKED.store(true, std::sync::atomic::Ordering::Relaxed);
+                        side(calls);
+                        MARKED.store(false, std::sync::atomic::Ordering::Relaxed);
+                    }
+                }
+            }),
             ["--one", row, side, calls] => {
                 let mut row = rows::rows().swap_remove(row.parse().expect("a row's number"));
                 let calls = calls.parse().expect("a number of calls");
@@ -59,7 +126,7 @@ fn main() {
                 0
             }
             _ => {
-                eprintln!("klem-bench [--rounds N | --list | --one ROW SIDE CALLS]");
+                eprintln!("klem-bench --list | --time ROUNDS | --count | --one ROW SIDE CALLS");
                 2
             }
         }
@@ -67,56 +134,13 @@ fn main() {
     std::process::exit(worker.and_then(|w| w.join().map_err(|_| std::io::Error::new(std::io::ErrorKind::Other, "a row panicked"))).unwrap_or(1));
 }
 
-fn every_row(rounds: usize) -> i32 {
-    let mut behind = 0;
-    let mut rows = rows::rows();
-    println!("| row | calls | port, ns a call | Rust, ns a call | Rust / port |");
-    println!("|---|---:|---:|---:|---:|");
-    for row in &mut rows {
+fn every_row(mut measure: impl FnMut(usize, &mut Row)) -> i32 {
+    for (i, row) in rows::rows().iter_mut().enumerate() {
         if let Err(why) = (row.same)() {
             eprintln!("klem-bench: {}: the two sides differ: {why}", row.name);
             return 1;
         }
-        // The sides take turns, so that both see the same machine; the least of the rounds is the one that was disturbed least.
-        let (mut port, mut rust) = (Duration::MAX, Duration::MAX);
-        for _ in 0..rounds {
-            port = port.min((row.port)(row.calls));
-            rust = rust.min((row.rust)(row.calls));
-        }
-        let each = |d: Duration| d.as_nanos() as f64 / row.calls as f64;
-        let ratio = rust.as_secs_f64() / port.as_secs_f64();
-        if ratio < 1.0 {
-            behind += 1;
-        }
-        println!(
-            "| {} | {} | {} | {} | {}{} |",
-            row.name,
-            row.calls,
-            figure(each(port)),
-            figure(each(rust)),
-            figure(ratio),
-            if ratio < 1.0 { " (behind)" } else { "" }
-        );
+        measure(i, row);
     }
-    eprintln!("{} rows, the port ahead on {}, behind on {behind}", rows.len(), rows.len() - behind);
     0
-}
-
-/// Three digits that mean something.
-fn figure(x: f64) -> String {
-    if x < 10.0 {
-        format!("{x:.2}")
-    } else if x < 100.0 {
-        format!("{x:.1}")
-    } else {
-        let whole = format!("{x:.0}");
-        let mut out = String::new();
-        for (i, c) in whole.chars().enumerate() {
-            if i > 0 && (whole.len() - i) % 3 == 0 {
-                out.push(',');
-            }
-            out.push(c);
-        }
-        out
-    }
 }

@@ -1,5 +1,5 @@
 //! The rows: for each, the port's call, the Rust's call, and the comparison of their answers.
-use crate::{inputs, klem_bench_timed as timed, Row};
+use crate::{black_box, inputs, klem_bench_timed as timed, Row};
 use aml::{
     name_object::name_string,
     namespace::{AmlName, LevelType as AmlLevel, Namespace},
@@ -10,7 +10,7 @@ use aml::{
     AmlContext, DebugVerbosity, Handler, MethodContext,
 };
 use klem::{Ended, Frame, LevelType, Path, Table};
-use std::{fmt::Debug, hint::black_box, rc::Rc};
+use std::{fmt::Debug, rc::Rc};
 
 struct NoHardware;
 #[rustfmt::skip]
@@ -66,15 +66,14 @@ fn equal<T: PartialEq + Debug>(what: &dyn Debug, port: T, rust: T) -> Result<(),
 pub fn rows() -> Vec<Row> {
     let mut rows = vec![package_lengths(), names(), text_read(), text_written(), normalised(), resolved(), built()];
     rows.extend(board());
-    for size in [1, 4, 16, 64] {
-        rows.push(checked(size));
-    }
-    rows.push(run("run a block of 64 KiB", vec![inputs::block_of(65_536)], 1));
+    let sizes = [1, 4, 16, 64];
+    rows.extend(sizes.map(checked));
+    rows.extend(sizes.map(|kib| run(&format!("run a block of {kib} KiB"), vec![inputs::block_of(kib * 1024)], 64 / kib)));
     rows.push(run("run a loop of 100,000 turns", vec![inputs::turns(100_000)], 1));
     rows.push(run("run short blocks (1 to 16 bytes)", inputs::short_blocks(), 2_400));
-    for levels in [8, 32, 128] {
-        rows.push(grown(levels));
-    }
+    rows.push(refused("run short blocks that both refuse (1 to 16 bytes)", inputs::short_faults(), 2_400));
+    rows.push(refused("run a block of 64 KiB that both refuse at its end", vec![inputs::late_fault(65_536)], 1));
+    rows.extend([8, 32, 100, 128].map(grown));
     rows
 }
 
@@ -91,6 +90,8 @@ fn reading<P: 'static, R: 'static>(
     Row {
         name: title.into(),
         calls,
+        inputs: port_inputs.len(),
+        apart: false,
         same: Box::new(same),
         port: Box::new(move |n| timed(&mut || port_inputs.iter().cycle().take(n).for_each(&mut port))),
         rust: Box::new(move |n| timed(&mut || rust_inputs.iter().cycle().take(n).for_each(&mut rust))),
@@ -106,7 +107,11 @@ fn package_lengths() -> Row {
         64_000,
         inputs.clone(),
         inputs,
-        |b| done(klem::pkg_length(black_box(b))),
+        // both sides look at the same three numbers
+        |b| match klem::pkg_length(black_box(b)) {
+            Ok((p, used)) => done((p.raw_length, p.end_offset, used)),
+            Err(e) => done(e),
+        },
         move |b| match pkg_length().parse(black_box(b), &mut c) {
             Ok((rest, _, p)) => done((p.raw_length, p.end_offset, rest.len())),
             Err((_, _, e)) => done(e),
@@ -193,6 +198,8 @@ fn normalised() -> Row {
     Row {
         name: "normalise".into(),
         calls: 24_000,
+        inputs: paths.len(),
+        apart: false,
         same: Box::new(|| {
             for t in inputs::BENT {
                 equal(
@@ -278,6 +285,8 @@ fn built() -> Row {
     Row {
         name: "build a namespace of 100 levels and 400 values, an edit".into(),
         calls: 6 * edits,
+        inputs: edits,
+        apart: false,
         same: Box::new(move || same_board(&board)),
         port: Box::new(move |n| {
             timed(&mut || {
@@ -417,30 +426,45 @@ fn rust_runs() -> impl FnMut(&Vec<u8>) {
     }
 }
 
+fn port_runs(b: &Vec<u8>) {
+    let mut frame = Frame::new();
+    done(klem::run(black_box(b), &mut frame, u64::MAX));
+    done(&frame);
+}
+
 fn run(title: &str, blocks: Vec<Vec<u8>>, calls: usize) -> Row {
     let check = blocks.clone();
-    reading(
-        title,
-        calls,
-        blocks.clone(),
-        blocks,
-        |b| {
-            let mut frame = Frame::new();
-            done(klem::run(black_box(b), &mut frame, u64::MAX));
-            done(&frame);
-        },
-        rust_runs(),
-        move || same_run(&check),
-    )
+    reading(title, calls, blocks.clone(), blocks, port_runs, rust_runs(), move || same_run(&check))
+}
+
+// The port checks the block and runs none of it; the Rust runs it as far as the fault. Both give the same refusal.
+fn refused(title: &str, blocks: Vec<Vec<u8>>, calls: usize) -> Row {
+    let check = blocks.clone();
+    reading(title, calls, blocks.clone(), blocks, port_runs, rust_runs(), move || {
+        let mut c = context();
+        for b in &check {
+            let end = b[b.len().saturating_sub(16)..].to_vec();
+            let port = klem::check(b).err().ok_or(format!("{end:?}: the check accepts it"))?;
+            equal(&end, klem::run(b, &mut Frame::new(), u64::MAX).end, Err(port))?;
+            let kind = match port.number() {
+                1 => "UnexpectedEndOfStream",
+                2 => "InvalidPkgLength",
+                3 => "UnexpectedByte",
+                _ => "no fault of the Rust's",
+            };
+            equal(&end, kind.to_string(), rust_run(b, &mut c).0.split('(').next().unwrap_or_default().to_string())?;
+        }
+        Ok(check.len())
+    })
 }
 
 // The Rust has no check: it finds a fault only where it runs into one. So it runs the block, which is all that it can do.
 fn checked(kib: usize) -> Row {
     let block = inputs::block_of(kib * 1024);
     let check = vec![block.clone()];
-    reading(
+    let row = reading(
         &format!("check a block of {kib} KiB (the Rust has no check: it runs it)"),
-        (64 / kib).max(1),
+        64 / kib,
         vec![block.clone()],
         vec![block],
         |b| done(klem::check(black_box(b))),
@@ -449,5 +473,6 @@ fn checked(kib: usize) -> Row {
             klem::check(&check[0]).map_err(|e| e.to_string())?;
             same_run(&check)
         },
-    )
+    );
+    Row { apart: true, ..row }
 }
