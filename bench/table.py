@@ -5,10 +5,12 @@
   table.py show TABLE.csv   the table as the page has it, and on how many rows the port is ahead
   table.py page             fills docs/SPEED.md from docs/speed/*.csv, and draws docs/speed/ratio.svg and growth.svg
 
-A table's name is SET-rustc-VERSION.csv. The page and the plots have the set `before`, and beside it `after` where that is there.
+A table's name is SET-rustc-VERSION.csv. The page has the sets `nanoseconds`, `before` and, where it is there, `after`; the plots have the last two, by
+the newest compiler.
 """
 import csv
 import glob
+import math
 import os
 import re
 import sys
@@ -46,7 +48,8 @@ class Table:
         lines = open(path).read().splitlines()
         self.about = [l[2:] for l in lines if l.startswith("# ")]
         self.unit = self.about[0].split()[0]
-        self.version = re.search(r"-rustc-([\d.]+)\.csv$", path)
+        version = re.search(r"-rustc-([\d.]+)\.csv$", path)
+        self.version = version[1] if version else ""
         self.rows = list(csv.DictReader(l for l in lines if not l.startswith("# ")))
         self.of = {r["row"]: (float(r["port"]), float(r["rust"])) for r in self.rows}
 
@@ -97,8 +100,16 @@ def show(t):
 
 def tables(name):
     """the tables of a set, that of the newest compiler first"""
-    found = [Table(p) for p in glob.glob("%s/speed/%s-rustc-*.csv" % (DOCS, name))]
-    return sorted(found, key=lambda t: [int(n) for n in t.version[1].split(".")], reverse=True)
+    found = [Table(p) for p in glob.glob("%s/speed/%s.csv" % (DOCS, name)) + glob.glob("%s/speed/%s-rustc-*.csv" % (DOCS, name))]
+    return sorted(found, key=lambda t: [int(n) for n in re.findall(r"\d+", t.version)], reverse=True)
+
+
+def drawn_sets():
+    """before, and after where it is there: by one compiler, the newest that measured the last of them"""
+    before, after = tables("before"), tables("after")
+    if not after:
+        return {"before": before[0]}
+    return {"before": next((t for t in before if t.version == after[0].version), before[0]), "after": after[0]}
 
 
 def instructions():
@@ -106,11 +117,11 @@ def instructions():
     before, after = tables("before"), tables("after")
     if not after:
         t, others = before[0], before[1:]
-        heads = ["row", "port", "Rust", "Rust / port"] + ["by rustc " + o.version[1] for o in others]
+        heads = ["row", "port", "Rust", "Rust / port"] + ["by rustc " + o.version for o in others]
         rows = ([r["row"], *(figure(x, t.unit) for x in t.of[r["row"]]), verdict(t, r)] + [verdict(o, r) for o in others] for r in t.rows)
     else:
-        b, t, others = before[0], after[0], after[1:]
-        heads = ["row", "port, before", "port, after", "Rust", "Rust / port, before", "after"] + ["after, by rustc " + o.version[1] for o in others]
+        b, t, others = *drawn_sets().values(), after[1:]
+        heads = ["row", "port, before", "port, after", "Rust", "Rust / port, before", "after"] + ["after, by rustc " + o.version for o in others]
         rows = ([r["row"], figure(b.of[r["row"]][0], b.unit) if r["row"] in b.of else "", *(figure(x, t.unit) for x in t.of[r["row"]]),
                  verdict(b, r) if r["row"] in b.of else "", verdict(t, r)] + [verdict(o, r) for o in others] for r in t.rows)
     for name, sets in (("Before", before), ("After", after)):
@@ -121,7 +132,7 @@ def instructions():
     yield ""
     for name, sets in (("Before", before), ("After", after)):
         for s in sets:
-            yield "%s, by rustc %s: %s" % (name, s.version[1], s.counts())
+            yield "%s, by rustc %s: %s" % (name, s.version, s.counts())
             yield ""
 
 
@@ -134,9 +145,7 @@ def page():
         tail = rest.split(end)[1]
         text = head + start + "\n".join(lines()).rstrip("\n") + "\n" + end + tail
     open(PAGE, "w").write(text)
-    drawn = {"before": tables("before")[0]}
-    if tables("after"):
-        drawn["after"] = tables("after")[0]
+    drawn = drawn_sets()
     open(DOCS + "/speed/ratio.svg", "w").write(ratio_plot(drawn))
     open(DOCS + "/speed/growth.svg", "w").write(growth_plot(drawn))
 
@@ -159,21 +168,16 @@ def svg(width, height, title, parts):
     return "\n".join([head, "<title>%s</title>" % title, '<rect width="%d" height="%d" fill="white"/>' % (width, height)] + parts + ["</svg>", ""])
 
 
-def log10(x):
-    import math
-    return math.log10(x)
-
-
 def ratio_plot(drawn):
     """a bar for each row and set, from 1 to the ratio, on a scale of powers of ten"""
     newest = list(drawn.values())[-1]
     left, right, top, each = 470, 1010, 66, 24
     low, high = -3, 2
-    at = lambda r: left + (min(max(log10(r), low), high) - low) / (high - low) * (right - left)
+    at = lambda r: left + (min(max(math.log10(r), low), high) - low) / (high - low) * (right - left)
     bottom = top + each * len(newest.rows)
     title = "Instructions: how many times as many the Rust takes"
     parts = [text(16, 26, title, 16, more=' font-weight="bold"'),
-             text(16, 46, "right of 1 the port is ahead, left of 1 behind; grey: the Rust has no check and runs the block; rustc %s" % newest.version[1], 12, fill=GREY)]
+             text(16, 46, "right of 1 the port is ahead, left of 1 behind; grey: the Rust has no check and runs the block; rustc %s" % newest.version, 12, fill=GREY)]
     for p in range(low, high + 1):
         parts.append(line(at(10 ** p), top, at(10 ** p), bottom, INK if p == 0 else PALE))
         parts.append(text(at(10 ** p), bottom + 16, "%g" % 10 ** p, 11, "middle", GREY))
@@ -188,11 +192,22 @@ def ratio_plot(drawn):
             x1, x2 = sorted((at(1), at(r)))
             fade = ' fill-opacity="0.35"' if k < len(sets) - 1 else ""
             parts.append('<rect x="%.1f" y="%.1f" width="%.1f" height="%.1f" fill="%s"%s/>' % (x1, y + 4 + k * high_of, max(x2 - x1, 1), high_of - 1, colour, fade))
-            if k == len(sets) - 1:
-                parts.append(text(x2 + 5 if r >= 1 else x1 - 5, y + 16, figure(r), 11, "start" if r >= 1 else "end", colour))
+        # the last set's figure, clear of every bar
+        ends = [at(t.ratio(row["row"])) for _, t in sets] + [at(1)]
+        parts.append(text(max(ends) + 5 if r >= 1 else min(ends) - 5, y + 16, figure(r), 11, "start" if r >= 1 else "end", colour))
     if len(drawn) > 1:
         parts.append(text(16, bottom + 16, "pale: before", 11, fill=GREY))
     return svg(right + 60, bottom + 30, title, parts)
+
+
+def port_lines(drawn, name, colour, rows):
+    """a line for each set, the older ones pale; one alone where they lie within one percent of one another"""
+    lines = {n: [(x, t.of[r][0]) for x, r in rows] for n, t in drawn.items()}
+    last = list(lines)[-1]
+    apart = [n for n in lines if any(abs(y / z - 1) > 0.01 for (_, y), (_, z) in zip(lines[n], lines[last]))]
+    if not apart:
+        return [(name, colour, "", lines[last])]
+    return [(name + ", " + n, colour, ' stroke-opacity="0.4"', lines[n]) for n in apart] + [(name + ", " + last, colour, "", lines[last])]
 
 
 def growth_plot(drawn):
@@ -200,15 +215,11 @@ def growth_plot(drawn):
     newest = list(drawn.values())[-1]
     sizes = (1, 4, 16, 64)
     levels = [(int(m[1]), r["row"]) for r in newest.rows for m in [re.match(r"the same search with (\d+) levels", r["row"])] if m]
+    check = {s: next(r["row"] for r in newest.rows if r["row"].startswith("check a block of %d KiB" % s)) for s in sizes}
     blocks = [("run, Rust", ORANGE, "", [(s, newest.of["run a block of %d KiB" % s][1]) for s in sizes])]
-    searches = [("Rust", ORANGE, "", [(n, newest.of[r][1]) for n, r in levels])]
-    for k, (name, t) in enumerate(drawn.items()):
-        last = k == len(drawn) - 1
-        which = ", " + name if len(drawn) > 1 else ""
-        more = "" if last else ' stroke-opacity="0.4"'
-        blocks.append(("run, port" + which, BLUE, more, [(s, t.of["run a block of %d KiB" % s][0]) for s in sizes]))
-        blocks.append(("check, port" + which, GREY, more, [(s, t.of[next(r for r in t.of if r.startswith("check a block of %d KiB" % s))][0]) for s in sizes]))
-        searches.append(("port" + which, BLUE, more, [(n, t.of[r][0]) for n, r in levels if r in t.of]))
+    blocks += port_lines(drawn, "run, port", BLUE, [(s, "run a block of %d KiB" % s) for s in sizes])
+    blocks += port_lines(drawn, "check, port", GREY, list(check.items()))
+    searches = [("Rust", ORANGE, "", [(n, newest.of[r][1]) for n, r in levels])] + port_lines(drawn, "port", BLUE, levels)
     top, bottom, wide = 80, 400, 330
 
     def panel(left, words, below, lines, x_at, y_at, x_marks, y_marks):
@@ -229,15 +240,15 @@ def growth_plot(drawn):
             b[0] = max(b[0], a[0] + 14)
         return parts + [text(x, y, name, 12, fill=colour) for y, x, name, colour in ends]
 
-    tens = lambda low, high: (lambda y: bottom - (log10(y) - low) / (high - low) * (bottom - top))
+    tens = lambda low, high: (lambda y: bottom - (math.log10(y) - low) / (high - low) * (bottom - top))
     most = max(y for _, _, _, points in searches for _, y in points)
     step = next(s for s in (1000, 2000, 5000, 10000, 20000, 50000) if most / s < 8)
     ceiling = (int(most / step) + 1) * step
     title = "Instructions: how a call grows"
     parts = [text(16, 26, title, 16, more=' font-weight="bold"')]
-    parts += panel(76, "A block, by its length", "KiB (both scales by powers)", blocks, lambda x: log10(x) / log10(64) * wide, tens(4, 8), sizes, [10 ** p for p in range(4, 9)])
+    parts += panel(76, "A block, by its length", "KiB (both scales by powers)", blocks, lambda x: math.log10(x) / math.log10(64) * wide, tens(4, 8), sizes, [10 ** p for p in range(4, 9)])
     parts += panel(76 + wide + 210, "A search, by the levels of its table", "levels, four values to each below the root (plain scales)", searches,
-                   lambda x: x / 128 * wide, lambda y: bottom - y / ceiling * (bottom - top), [n for n, _ in levels if n != 100] + [100],
+                   lambda x: x / 128 * wide, lambda y: bottom - y / ceiling * (bottom - top), [n for n, _ in levels],
                    range(0, ceiling + 1, step))
     return svg(76 + 2 * wide + 210 + 110, bottom + 56, title, parts)
 
