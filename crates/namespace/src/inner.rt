@@ -54,13 +54,7 @@ pub fn settled(path: AmlName) -> PathAnswer
     }
 }
 
-fn wide(b: u8) -> u64
-    ensures { λ r. ⌜ (r ≡ b) × (r < 256) ⌝ }
-{
-    b as u64
-}
-
-// A path's components as the records have them: the root is 0, a segment is its four bytes as one number, the first byte highest.
+// A path's components as the records have them: the root is 0, a segment is its number.
 pub fn keys_of(path: AmlName) -> [u64; 32]
     requires { ⌜ Settled path ⌝ }
     ensures { λ r. ⌜ take (path .count) r ≡ keys (pathOf path) ⌝ }
@@ -70,10 +64,12 @@ pub fn keys_of(path: AmlName) -> [u64; 32]
     let mut i = 1;
     while i < n {
         let at = 4 * i;
-        keys[i] = wide(path.bytes[at]) * 16777216
-            + wide(path.bytes[at + 1]) * 65536
-            + wide(path.bytes[at + 2]) * 256
-            + wide(path.bytes[at + 3]);
+        keys[i] = table::inner::segment_number(
+            path.bytes[at],
+            path.bytes[at + 1],
+            path.bytes[at + 2],
+            path.bytes[at + 3],
+        );
         i += 1;
     }
     keys
@@ -333,10 +329,7 @@ fn bare_key(path: AmlName) -> u64
     requires { ⌜ Bare path ⌝ }
     ensures { λ r. ⌜ r ≡ key (firstOf (pathOf path)) ⌝ }
 {
-    wide(path.bytes[0]) * 16777216
-        + wide(path.bytes[1]) * 65536
-        + wide(path.bytes[2]) * 256
-        + wide(path.bytes[3])
+    table::inner::segment_number(path.bytes[0], path.bytes[1], path.bytes[2], path.bytes[3])
 }
 
 // A bare segment in the scope of a path's first n components.

@@ -1,5 +1,6 @@
 pub mod Words
 pub mod Shape
+pub mod Segments
 pub mod Decode
 pub mod Scan
 pub mod Sound

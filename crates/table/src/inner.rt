@@ -8,6 +8,7 @@ ghost use lib.ListN.{length, take, drop, getD, replicate};
 ghost use Rattle.name_object.specs.Component.{componentLimit};
 ghost use Rattle.name_object.specs.Memory.{allZero};
 ghost use Rattle.table.specs.Limits.{limits};
+ghost use Rattle.table.specs.Tree.{number};
 ghost use Rattle.table.specs.Layout.{bindingOf};
 ghost use Rattle.table.specs.Valid.{segmentOk, nameOk};
 ghost use Rattle.table.specs.Memory.{wellFormed};
@@ -23,6 +24,19 @@ pub fn clear(xs: &mut [u64])
         xs[i] = 0;
         i += 1;
     }
+}
+
+fn wide(b: u8) -> u64
+    ensures { λ r. ⌜ (r ≡ b) × (r < 256) ⌝ }
+{
+    b as u64
+}
+
+// A segment's four characters as one number.
+pub fn segment_number(a: u8, b: u8, c: u8, d: u8) -> u64
+    ensures { λ r. ⌜ r ≡ number a b c d ⌝ }
+{
+    wide(a) * 16777216 + wide(b) * 65536 + wide(c) * 256 + wide(d)
 }
 
 // A number is a segment.
