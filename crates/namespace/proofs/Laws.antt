@@ -27,13 +27,7 @@ use Rattle.table.proofs.Laws.{fresh-is-well-formed, left-is-well-formed, GoodKe
 use Rattle.namespace.specs.declared.LevelType.{LevelType}
 use Rattle.namespace.specs.declared.LevelType.the-variants.{Scope, Device, Processor, PowerResource, ThermalZone, MethodLocals}
 use Rattle.namespace.specs.Calls.{newCall, settled, settledKeys, resolvedKeys, typeNumber, addLevelCall, removeLevelCall, addValueCall, addValueResolvedCall, aliasAt, addAliasCall, setCall, setByPathCall}
-use Rattle.namespace.proofs.Keys.{key-ok}
-
-no-gift : {A : Type 0} {T : Type 0} {a : A} {n p : ℕ} → refuses n p ≡ gives a → T
-no-gift e = absurd (let z : _≡_ {A = ℕ} 0 1 = cc in omega arith)
-
-gives-same : {A : Type 0} {a b : A} → gives a ≡ gives b → a ≡ b
-gives-same e = cc
+use Rattle.namespace.proofs.Keys.{no-gift, gives-same, key-ok, Keeps, asked, joined, asked-keys, joined-keys, asked-keeps, joined-keeps, read-path}
 
 -- the keys of a normal absolute path are good
 good-keys : (limit : ℕ) (ns : List Component) → Kept limit ns → GoodKeys limit (keys ns)
@@ -43,49 +37,16 @@ good-keys limit ns k =
       named = λ h. key-ok limit ns k (length (keys ns) - 1) (omega arith) (omega (arith, length-keys ns));
     }
 
-read-path : (limit : ℕ) (name : AmlName) (cs : List Component) → pathIn limit name ≡ gives cs → fine true cs ≡ true
-unfolding pathIn
-read-path limit name cs e = go (pathOk limit name) refl e
-  where
-    go : (x : Bool) → pathOk limit name ≡ x → cond x (gives (pathOf name)) (refuses 26 0) ≡ gives cs → fine true cs ≡ true
-    go true h e = subst (λ (l : List Component). fine true l ≡ true) (gives-same e) (path-fine limit name h .0)
-    go false h e = no-gift e
-
-settled-kept : (limit : ℕ) (cs ns : List Component) → fine true cs ≡ true → settled limit cs ≡ gives ns → Kept limit ns
-unfolding settled
-settled-kept limit cs ns f e = go (absolute cs) refl e
-  where
-    go : (x : Bool) → absolute cs ≡ x → cond x (normal limit cs) (refuses 11 0) ≡ gives ns → Kept limit ns
-    go true a e = normal-kept limit cs ns f a e
-    go false a e = no-gift e
+-- what the keys of an answer are good for
+keys-good : (limit : ℕ) (a : Answer (List Component)) (p : List ℕ) → Keeps limit a → andThen a (λ ns. gives (keys ns)) ≡ gives p → GoodKeys limit p
+keys-good limit (gives ns) p k e = subst (GoodKeys limit) (gives-same e) (good-keys limit ns (k ns refl))
+keys-good limit (refuses n m) p k e = no-gift e
 
 pub settled-good : (limit : ℕ) (name : AmlName) (p : List ℕ) → settledKeys limit name ≡ gives p → GoodKeys limit p
-unfolding settledKeys
-settled-good limit name p e = go (pathIn limit name) refl e
-  where
-    last : (cs : List Component) (a : Answer (List Component)) → fine true cs ≡ true → settled limit cs ≡ a → andThen a (λ ns. gives (keys ns)) ≡ gives p → GoodKeys limit p
-    last cs (gives ns) f q e = subst (GoodKeys limit) (gives-same e) (good-keys limit ns (settled-kept limit cs ns f q))
-    last cs (refuses n k) f q e = no-gift e
-
-    go : (a : Answer (List Component)) → pathIn limit name ≡ a → andThen a (λ cs. andThen (settled limit cs) (λ ns. gives (keys ns))) ≡ gives p → GoodKeys limit p
-    go (gives cs) q e = last cs (settled limit cs) (read-path limit name cs q) refl e
-    go (refuses n k) q e = no-gift e
-
-resolved-good : (limit : ℕ) (cs ss ns : List Component) → fine true cs ≡ true → fine true ss ≡ true → resolved limit cs ss ≡ gives ns → GoodKeys limit (keys ns)
-resolved-good limit cs ss ns f g e = good-keys limit ns (resolved-kept limit cs ss ns f g e)
+settled-good limit name p e = keys-good limit (asked limit name) p (asked-keeps limit name) (asked-keys limit name ∙ e)
 
 pub joined-good : (limit : ℕ) (path scope : AmlName) (p : List ℕ) → resolvedKeys limit path scope ≡ gives p → GoodKeys limit p
-unfolding resolvedKeys
-joined-good limit path scope p e = go (pathIn limit path) (pathIn limit scope) refl refl e
-  where
-    last : (cs ss : List Component) (a : Answer (List Component)) → fine true cs ≡ true → fine true ss ≡ true → resolved limit cs ss ≡ a → andThen a (λ ns. gives (keys ns)) ≡ gives p → GoodKeys limit p
-    last cs ss (gives ns) f g q e = subst (GoodKeys limit) (gives-same e) (resolved-good limit cs ss ns f g q)
-    last cs ss (refuses n k) f g q e = no-gift e
-
-    go : (a b : Answer (List Component)) → pathIn limit path ≡ a → pathIn limit scope ≡ b → andThen a (λ cs. andThen b (λ ss. andThen (resolved limit cs ss) (λ ns. gives (keys ns)))) ≡ gives p → GoodKeys limit p
-    go (gives cs) (gives ss) q r e = last cs ss (resolved limit cs ss) (read-path limit path cs q) (read-path limit scope ss r) refl e
-    go (gives cs) (refuses n k) q r e = no-gift e
-    go (refuses n k) b q r e = no-gift e
+joined-good limit path scope p e = keys-good limit (joined limit path scope) p (joined-keeps limit path scope) (joined-keys limit path scope ∙ e)
 
 done-tree : (a : Answer Tree) (e : Edited (Unit {0})) → done a ≡ gives e → a ≡ gives (e .tree)
 done-tree (gives t) e d = ap (λ (x : Edited (Unit {0})). gives (x .tree)) (gives-same d)
@@ -159,7 +120,7 @@ module _ (m : Limits) (hm : m .objects ≤ 4294967296) (cap : m .bindings < 1024
   module _ (path scope target : AmlName) where
     both-resolved : (cs ss ts : List Component) (a b : Answer (List Component)) → fine true cs ≡ true → fine true ss ≡ true → resolved (m .components) cs ss ≡ a → (e : Edited ℕ)
         → andThen a (λ ps. andThen b (λ qs. addAlias m (decode m ws) (keys ps) (keys qs))) ≡ gives e → Whole m (e .tree)
-    both-resolved cs ss ts (gives ps) (gives qs) f g q e d = add-alias-valid m (decode m ws) whole cap hm (keys ps) (keys qs) e (resolved-good (m .components) cs ss ps f g q) d
+    both-resolved cs ss ts (gives ps) (gives qs) f g q e d = add-alias-valid m (decode m ws) whole cap hm (keys ps) (keys qs) e (good-keys (m .components) ps (resolved-kept (m .components) cs ss ps f g q)) d
     both-resolved cs ss ts (gives ps) (refuses n k) f g q e d = no-gift d
     both-resolved cs ss ts (refuses n k) b f g q e d = no-gift d
 

@@ -31,7 +31,7 @@ use Rattle.table.proofs.NearLevels.{askChild, depthOf, level-held, level-search
 pub same-told : {A : Type 0} {m n : AmlName} {a b : Answer A} → m ≡ n → a ≡ b → _≡_ {A = Told A} (record { memory = m; said = a }) (record { memory = n; said = b })
 same-told e f = λ i. record { memory = e i; said = f i }
 
-module _ (ws : List ℕ) (ok : wellFormed limits ws ≡ true) (scope : AmlName) (s : Settled scope) (c : Component) where
+module _ (ws : List ℕ) (ok : wellFormed limits ws ≡ true) (scope : AmlName) (s : Settled componentLimit scope) (c : Component) where
   abbrev t : Tree
   t = decode limits ws
 

@@ -20,6 +20,7 @@ use Rattle.table.specs.Layout.{encode}
 use Rattle.table.specs.Memory.{wellFormed, decode, Edited, left}
 use Rattle.table.specs.Edits.{alter, scopeOf, lastOf, withBinding, withLevels, withObjects, nextHandle, lookUp, bind, addValue, addAlias}
 use Rattle.namespace.specs.Calls.{aliasAt, addAliasCall}
+use Rattle.namespace.specs.Inside.{againstKeys}
 use Rattle.table.specs.Inside.{spotIn, bindWords}
 use Rattle.table.specs.declared.inner.Spot.{Spot}
 use Rattle.table.proofs.Shape.{clash}
@@ -148,19 +149,20 @@ module _ (m : Limits) (hm : m .objects ≤ 4294967296) (ws : List ℕ) (ok : wel
               given m ws us _ h (addAlias m (decode m ws) p q) (alias-made m (decode m ws) p q h _ (sym g) (bind-room m hm ws ok p r e a i opened (room z f) h))
               (u ∙ bound-words m hm ws ok p r e a i opened (room z f) h)
 
--- the whole call of an alias
+-- the whole call of an alias: its path's keys, its target's, and then the edit
 module _ (m : Limits) (t : Tree) (cs ss ts : List Component) where
-  pub alias-path : (n k : ℕ) → resolved (m .components) cs ss ≡ refuses n k → aliasAt m t cs ss ts ≡ refuses n k
+  pub alias-keys : aliasAt m t cs ss ts ≡ andThen (againstKeys (m .components) cs ss) (λ p. andThen (againstKeys (m .components) ts ss) (λ q. addAlias m t p q))
   unfolding aliasAt
-  alias-path n k e = rw e
+  alias-keys = go (resolved (m .components) cs ss) (resolved (m .components) ts ss)
+    where
+      go : (x y : Answer (List Component)) → andThen x (λ ps. andThen y (λ qs. addAlias m t (keys ps) (keys qs)))
+          ≡ andThen (andThen x (λ ns. gives (keys ns))) (λ p. andThen (andThen y (λ ns. gives (keys ns))) (λ q. addAlias m t p q))
+      go (gives ps) (gives qs) = refl
+      go (gives ps) (refuses n k) = refl
+      go (refuses n k) y = refl
 
-  pub alias-target : (ps : List Component) (n k : ℕ) → resolved (m .components) cs ss ≡ gives ps → resolved (m .components) ts ss ≡ refuses n k → aliasAt m t cs ss ts ≡ refuses n k
-  unfolding aliasAt
-  alias-target ps n k e f = rw (e, f)
-
-  pub alias-both : (ps qs : List Component) → resolved (m .components) cs ss ≡ gives ps → resolved (m .components) ts ss ≡ gives qs → aliasAt m t cs ss ts ≡ addAlias m t (keys ps) (keys qs)
-  unfolding aliasAt
-  alias-both ps qs e f = rw (e, f)
+  pub alias-both : (p q : List ℕ) → againstKeys (m .components) cs ss ≡ gives p → againstKeys (m .components) ts ss ≡ gives q → addAlias m t p q ≡ aliasAt m t cs ss ts
+  alias-both p q e f = sym (alias-keys ∙ rw (e, f))
 
 pub three-paths : (path scope target : AmlName) → cond (pathOk componentLimit path) (cond (pathOk componentLimit scope) (pathOk componentLimit target) false) false ≡ true
     → (pathOk componentLimit path ≡ true) × (pathOk componentLimit scope ≡ true) × (pathOk componentLimit target ≡ true)

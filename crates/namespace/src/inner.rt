@@ -14,9 +14,10 @@ ghost use Rattle.table.specs.Memory.{wellFormed, decode, left, done};
 ghost use Rattle.table.specs.Edits.{addLevel, removeLevel, lookUp, addValue, addAlias, valueOf, setValue};
 ghost use Rattle.table.specs.Search.{searchUp, levelUp};
 ghost use Rattle.table.specs.Inside.{Keyed};
-ghost use Rattle.namespace.specs.Calls.{settled, editLeft, valueSaid, handleSaid, handleLeft, typeNumber, aliasAt};
+ghost use Rattle.path.specs.declared.PathSaid.{PathSaid};
+ghost use Rattle.namespace.specs.Calls.{settled, settledKeys, resolvedKeys, editLeft, valueSaid, handleSaid, handleLeft, typeNumber, aliasAt};
 ghost use Rattle.namespace.specs.Search.{searchTold, searchOnce, searchCall, levelTold, levelCall, firstOf};
-ghost use Rattle.namespace.specs.Inside.{Settled, Bare};
+ghost use Rattle.namespace.specs.Inside.{Settled, Bare, KeysIn, Keys, Ready, againstKeys};
 use crate::AmlHandle;
 use crate::EditAnswer;
 use crate::HandleAnswer;
@@ -55,14 +56,16 @@ pub fn settled(path: AmlName) -> PathAnswer
 }
 
 // A path's components as the records have them: the root is 0, a segment is its number.
-pub fn keys_of(path: AmlName) -> [u64; 32]
-    requires { ⌜ Settled path ⌝ }
-    ensures { λ r. ⌜ take (path .count) r ≡ keys (pathOf path) ⌝ }
+fn keys_of(path: AmlName) -> [u64; 32]
+    ensures { λ r. ⌜ (Settled componentLimit path → take (path .count) r ≡ keys (pathOf path)) ⌝ }
 {
     let n = path.count;
     let mut keys = [0u64; 32];
     let mut i = 1;
-    while i < n {
+    while i < 32 {
+        if n <= i {
+            return keys;
+        }
         let at = 4 * i;
         keys[i] = table::inner::segment_number(
             path.bytes[at],
@@ -73,6 +76,66 @@ pub fn keys_of(path: AmlName) -> [u64; 32]
         i += 1;
     }
     keys
+}
+
+// A path's keys, the first `count` of them, or what the path is refused with.
+pub struct PathKeys {
+    pub keys: [u64; 32],
+    pub count: usize,
+    pub said: PathSaid,
+}
+
+// The keys of what a path came to.
+fn keys_in(found: PathAnswer) -> PathKeys
+    ensures { λ r. ⌜ KeysIn found r ⌝ }
+{
+    let name = found.name;
+    let said = found.said;
+    PathKeys {
+        keys: keys_of(name),
+        count: name.count,
+        said,
+    }
+}
+
+// The keys of a path against a scope, both known to be paths.
+fn keys_against(path: AmlName, scope: AmlName) -> PathKeys
+    requires { ⌜ (pathOk componentLimit path ≡ true) × (pathOk componentLimit scope ≡ true) ⌝ }
+    ensures { λ r. ⌜ Keys componentLimit (againstKeys componentLimit (pathOf path) (pathOf scope)) r ⌝ }
+{
+    keys_in(path::inner::resolved(path, scope))
+}
+
+fn no_keys(e: AmlError) -> PathKeys
+    ensures { λ r. ⌜ r .said ≡ PathSaid.Refused e ⌝ }
+{
+    PathKeys {
+        keys: [0; 32],
+        count: 0,
+        said: PathSaid::Refused(e),
+    }
+}
+
+// What an edit or a lookup goes by: 24, what its path is refused with, and then the keys of its normal form.
+pub fn keyed(table: &[u64], path: AmlName) -> PathKeys
+    ensures { λ r. ⌜ Ready limits (now (table .entry)) (settledKeys componentLimit path) r ⌝ }
+{
+    if table::well_formed(table) {
+        keys_in(settled(path))
+    } else {
+        no_keys(AmlError::BadTable)
+    }
+}
+
+// The same of a path against a scope.
+pub fn keyed_in(table: &[u64], path: AmlName, scope: AmlName) -> PathKeys
+    ensures { λ r. ⌜ Ready limits (now (table .entry)) (resolvedKeys componentLimit path scope) r ⌝ }
+{
+    if table::well_formed(table) {
+        keys_in(path::resolve(path, scope))
+    } else {
+        no_keys(AmlError::BadTable)
+    }
 }
 
 // Types number as `LevelType` lists them, from 0.
@@ -259,22 +322,20 @@ pub fn resolve_alias(
     requires { ⌜ (wellFormed limits (now table) ≡ true) × (pathOk componentLimit path ≡ true) × (pathOk componentLimit scope ≡ true) × (pathOk componentLimit target ≡ true) ⌝ }
     ensures { λ r. ⌜ handleLeft (now (table .exit)) r ≡ left limits (now (table .entry)) (aliasAt limits (decode limits (now (table .entry))) (pathOf path) (pathOf scope) (pathOf target)) ⌝ }
 {
-    let one = path::inner::resolved(path, scope);
+    let one = keys_against(path, scope);
     let said = one.said;
     match said {
         PathSaid::Refused(e) => HandleAnswer::Refused(e),
         PathSaid::Done => {
-            let two = path::inner::resolved(target, scope);
+            let two = keys_against(target, scope);
             let told = two.said;
             match told {
                 PathSaid::Refused(e) => HandleAnswer::Refused(e),
                 PathSaid::Done => {
-                    let name = one.name;
-                    let aim = two.name;
-                    let n = name.count;
-                    let k = aim.count;
-                    let names = keys_of(name);
-                    let aims = keys_of(aim);
+                    let n = one.count;
+                    let k = two.count;
+                    let names = one.keys;
+                    let aims = two.keys;
                     add_alias(table, &names[..n], &aims[..k])
                 }
             }
@@ -302,7 +363,7 @@ pub fn no_level(e: AmlError) -> LevelAnswer
 
 // A path's first n components.
 fn within(name: AmlName, n: usize) -> AmlName
-    requires { ⌜ Settled name × (n ≤ name .count) ⌝ }
+    requires { ⌜ Settled componentLimit name × (n ≤ name .count) ⌝ }
     ensures { λ r. ⌜ r ≡ nameOf componentLimit (take n (pathOf name)) ⌝ }
 {
     let mut cut = name;
@@ -326,7 +387,7 @@ fn is_bare(path: AmlName) -> bool
 
 // A bare segment, as the records have it.
 fn bare_key(path: AmlName) -> u64
-    requires { ⌜ Bare path ⌝ }
+    requires { ⌜ Bare componentLimit path ⌝ }
     ensures { λ r. ⌜ r ≡ key (firstOf (pathOf path)) ⌝ }
 {
     table::inner::segment_number(path.bytes[0], path.bytes[1], path.bytes[2], path.bytes[3])
@@ -334,7 +395,7 @@ fn bare_key(path: AmlName) -> u64
 
 // A bare segment in the scope of a path's first n components.
 fn full_name(scope: AmlName, n: usize, path: AmlName) -> AmlName
-    requires { ⌜ Settled scope × Bare path × (n ≤ scope .count) × (n < componentLimit) ⌝ }
+    requires { ⌜ Settled componentLimit scope × Bare componentLimit path × (n ≤ scope .count) × (n < componentLimit) ⌝ }
     ensures { λ r. ⌜ r ≡ nameOf componentLimit (take n (pathOf scope) ++ (firstOf (pathOf path) ∷ [])) ⌝ }
 {
     let cut = within(scope, n);
@@ -348,7 +409,7 @@ fn full_name(scope: AmlName, n: usize, path: AmlName) -> AmlName
 }
 
 fn search_up(table: &[u64], path: AmlName, scope: AmlName) -> SearchAnswer
-    requires { ⌜ (wellFormed limits (now table) ≡ true) × Bare path × Settled scope ⌝ }
+    requires { ⌜ (wellFormed limits (now table) ≡ true) × Bare componentLimit path × Settled componentLimit scope ⌝ }
     ensures { λ r. ⌜ searchTold r ≡ told componentLimit (searchUp limits (decode limits (now (table .entry))) (firstOf (pathOf path)) (pathOf scope)) ⌝ }
 {
     let n = scope.count;
@@ -366,17 +427,18 @@ fn search_up(table: &[u64], path: AmlName, scope: AmlName) -> SearchAnswer
 }
 
 fn search_once(table: &[u64], path: AmlName, scope: AmlName) -> SearchAnswer
-    requires { ⌜ (wellFormed limits (now table) ≡ true) × (pathOk componentLimit path ≡ true) × Settled scope ⌝ }
+    requires { ⌜ (wellFormed limits (now table) ≡ true) × (pathOk componentLimit path ≡ true) × Settled componentLimit scope ⌝ }
     ensures { λ r. ⌜ searchTold r ≡ told componentLimit (searchOnce limits (decode limits (now (table .entry))) (pathOf path) (pathOf scope)) ⌝ }
 {
     let one = path::inner::resolved(path, scope);
-    let said = one.said;
+    let path_keys = keys_in(one);
+    let said = path_keys.said;
     match said {
         PathSaid::Refused(e) => not_found(e),
         PathSaid::Done => {
             let name = one.name;
-            let n = name.count;
-            let keys = keys_of(name);
+            let n = path_keys.count;
+            let keys = path_keys.keys;
             let found = look_up(table, &keys[..n]);
             match found {
                 HandleAnswer::Refused(e) => not_found(e),
@@ -410,7 +472,7 @@ pub fn search(table: &[u64], path: AmlName, starting_scope: AmlName) -> SearchAn
 }
 
 fn level_up(table: &[u64], path: AmlName, scope: AmlName) -> LevelAnswer
-    requires { ⌜ (wellFormed limits (now table) ≡ true) × Bare path × Settled scope ⌝ }
+    requires { ⌜ (wellFormed limits (now table) ≡ true) × Bare componentLimit path × Settled componentLimit scope ⌝ }
     ensures { λ r. ⌜ levelTold r ≡ told componentLimit (levelUp limits (decode limits (now (table .entry))) (firstOf (pathOf path)) (pathOf scope)) ⌝ }
 {
     let n = scope.count;
@@ -427,7 +489,7 @@ fn level_up(table: &[u64], path: AmlName, scope: AmlName) -> LevelAnswer
 }
 
 fn search_level_up(table: &[u64], level_name: AmlName, starting_scope: AmlName) -> LevelAnswer
-    requires { ⌜ (wellFormed limits (now table) ≡ true) × Bare «level_name» ⌝ }
+    requires { ⌜ (wellFormed limits (now table) ≡ true) × Bare componentLimit «level_name» ⌝ }
     ensures { λ r. ⌜ levelTold r ≡ told componentLimit (levelCall limits (now (table .entry)) «level_name» «starting_scope») ⌝ }
 {
     let found = settled(starting_scope);
