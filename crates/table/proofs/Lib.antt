@@ -27,3 +27,4 @@ pub mod Near
 pub mod NearWords
 pub mod NearLevels
 pub mod Laws
+pub mod Frames
