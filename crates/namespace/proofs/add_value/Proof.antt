@@ -1,12 +1,10 @@
 -- 24, what the path is refused with, and then the work on the tree.
 use mathlib.Core.Path.{_≡_, ap, sym, _∙_}
-use mathlib.Core.List.{List}
-use Prim.Native.Nat.{ℕ}
 use lib.ListN.{length}
 use lib.Seq.{length-take-le}
 use Rattle.name_object.specs.Component.{componentLimit}
 use Rattle.table.specs.Limits.{limits}
-use Rattle.table.specs.Memory.{decode, left}
+use Rattle.table.specs.Memory.{left}
 use Rattle.table.specs.Edits.{addValue}
 use Rattle.namespace.specs.Calls.{settledKeys, addValueCall}
 use Rattle.namespace.proofs.Calls.{call-given, call-refused, left-kept}
