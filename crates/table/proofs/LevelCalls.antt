@@ -2,13 +2,13 @@
 use mathlib.Core.Path.{_≡_, refl, ap, ap₂, sym, _∙_}
 use mathlib.Core.Bool.{true}
 use mathlib.Core.List.{List, _++_}
-use Prim.Native.Nat.{ℕ, _+_, _*_, _-_, _<_, _≤_}
+use Prim.Native.Nat.{ℕ, _+_, _*_, _-_, _<_, _≤_, _^_}
 use native.Mathlib.Omega.{arith}
 use lib.ListN.{length, take, drop, getD, length-append, length-drop, length-replicate}
 use lib.Seq.{getD-take, length-take-le, take-at, drop-at, drop-drop}
 use Rattle.pkg_length.specs.Refusal.{Answer, gives, refuses}
 use Rattle.table.specs.Limits.{Limits}
-use Rattle.table.specs.Tree.{Tree}
+use Rattle.table.specs.Tree.{Tree, isLive}
 use Rattle.table.specs.Layout.{pack, encode}
 use Rattle.table.specs.Memory.{wellFormed, decode, Edited, Left, left, done}
 use Rattle.table.specs.Edits.{lastOf, alter, without, withLevels, addLevel, removeLevel}
@@ -74,7 +74,7 @@ length-closed a e xs h k =
     sums : (a e n : ℕ) → a ≤ e → e ≤ n → a + (n - e + (e - a)) ≡ n
     sums a e n h k = omega arith
 
-module _ (m : Limits) (hm : m .objects ≤ 4294967296) (ws : List ℕ) (ok : wellFormed m ws ≡ true) where
+module _ (m : Limits) (hm : m .objects ≤ 2 ^ 32) (ws : List ℕ) (ok : wellFormed m ws ≡ true) where
   abbrev ls : List ℕ
   ls = take (m .levels) ws
 
@@ -145,7 +145,7 @@ module _ (m : Limits) (hm : m .objects ≤ 4294967296) (ws : List ℕ) (ok : wel
         pub from-is : b ≡ counts (take a ls)
         from-is = placed-here ls (seekIn p ls 0 0 0) a b (sym e ∙ d) .1
 
-        found : (Focus (m .components) (length (decode m ws .objects)) (decode m ws .levels) 0 0 p 0 a 0) × (removeLevel (decode m ws) p ≡ gives (withLevels (decode m ws) (alter without (decode m ws .levels) p)))
+        found : (Focus (m .components) (isLive (decode m ws)) (decode m ws .levels) 0 0 p 0 a 0) × (removeLevel (decode m ws) p ≡ gives (withLevels (decode m ws) (alter without (decode m ws .levels) p)))
         found = remove-here m (decode m ws) (whole m hm ws ok) p a h (led (here a) (placed-here ls (seekIn p ls 0 0 0) a b (sym e ∙ d) .0))
 
         abbrev bs : List ℕ

@@ -1,4 +1,4 @@
--- Room made in, and taken out of, a list of fixed length: what a turn of each loop does.
+-- Room live in, and taken out of, a list of fixed length: what a turn of each loop does.
 use mathlib.Core.Path.{_≡_, refl, ap}
 use mathlib.Core.List.{List, [], _∷_, _++_, append-assoc, append-nil}
 use Prim.Native.Nat.{ℕ, zero, suc, _+_, _-_, _<_, _≤_}
