@@ -1,6 +1,6 @@
 -- The words after a binding more, and after a value more, are those of the definition's tree.
 use mathlib.Core.Path.{_≡_, refl, ap, ap₂, sym, _∙_}
-use mathlib.Core.Bool.{true}
+use mathlib.Core.Bool.{true, Bool, false, cond}
 use mathlib.Core.List.{List, [], _∷_, _++_, append-assoc, map}
 use Prim.Native.Nat.{ℕ, suc, _+_, _*_, _-_, _<_, _≤_, _^_}
 use native.Mathlib.Omega.{arith}
@@ -23,6 +23,8 @@ use Rattle.table.proofs.Held.{levels-are, bindings-are, rebuild}
 use Rattle.table.proofs.Slots.{FreeAt, slot-free}
 use Rattle.table.proofs.Bind.{node-is, new, bound-levels, same-count, put-binding, one-bound, place-bound}
 use Rattle.table.proofs.BindCalls.{Open}
+use Rattle.table.proofs.Moves.{pos-bound}
+use lib.Dec.{eqb}
 
 same-left : {A : Type 0} {ws us : List ℕ} {a b : Answer A} → ws ≡ us → a ≡ b → _≡_ {A = Left A} (record { words = ws; said = a }) (record { words = us; said = b })
 same-left e f = λ i. record { words = e i; said = f i }
@@ -76,7 +78,11 @@ bind-moves m ws at i word h vs v =
 length-push : (c : ℕ) (xs : List ℕ) → length (push c xs) ≡ length xs
 unfolding push
 length-push c [] = refl
-length-push c (x ∷ xs) = ap suc (length-push x xs)
+length-push c (x ∷ xs) = ap suc (go (eqb x 0) (length-push x xs))
+  where
+    go : (t : Bool) → length (push x xs) ≡ length xs → length (cond t xs (push x xs)) ≡ length xs
+    go true h = refl
+    go false h = h
 
 pub bind-length : (m : Limits) (ws : List ℕ) (at i word : ℕ) → length (bindWords m ws at i word) ≡ length ws
 unfolding bindWords
@@ -170,7 +176,7 @@ module _ (m : Limits) (hm : m .objects ≤ 2 ^ 32) (ws : List ℕ) (ok : wellFor
         let b : ℕ = length (map bindWord (bound (t .levels))) in
         ap (λ (l : List ℕ). take i l ++ push (bindWord (tied h)) (drop i l))
         (bindings-are m hm ws ok ∙ ap (λ (n : ℕ). map bindWord (bound (t .levels)) ++ replicate n 0) (more b (m .bindings) (rw (length-words (t .levels)) room)))
-        ∙ put-words (map bindWord (bound (t .levels))) (map bindWord (bound f′)) (bindWord (tied h)) i (m .bindings - suc b) put
+        ∙ put-words (map bindWord (bound (t .levels))) (map bindWord (bound f′)) (bindWord (tied h)) i (m .bindings - suc b) (pos-bound (m .components) (isLive t) (t .levels) 1 0 (w .forest)) put
         ∙ ap (λ (n : ℕ). map bindWord (bound f′) ++ replicate (m .bindings - n) 0) (sym (put-length (map bindWord (bound (t .levels))) (map bindWord (bound f′)) (bindWord (tied h)) i 0 put))
       where
         put : Rattle.table.proofs.Insert.PutIn (map bindWord (bound (t .levels))) (map bindWord (bound (alter (withBinding (tied h)) (decode m ws .levels) (scopeOf p)))) (bindWord (tied h)) i 0

@@ -23,45 +23,7 @@ use Rattle.table.proofs.Whole.{length-words}
 use Rattle.table.proofs.Memory.{levelPart, bindPart, objectPart, first-is, second-is, third-is}
 use Rattle.table.proofs.Objects.{whole, words}
 use Rattle.table.proofs.Seek.{seekF, seek-forest}
-
--- no word of a level or a binding is 0
-abbrev pub AllPos : List ℕ → Type 0
-AllPos [] = Unit {0}
-AllPos (x ∷ xs) = (0 < x) × AllPos xs
-
-pos-append : (xs ys : List ℕ) → AllPos xs → AllPos ys → AllPos (xs ++ ys)
-pos-append [] ys h k = k
-pos-append (x ∷ xs) ys h k = (h .0, pos-append xs ys (h .1) k)
-
-pos-at : (xs : List ℕ) (i : ℕ) → AllPos xs → i < length xs → 0 < getD xs i 0
-pos-at [] i h l = absurd (not-suc-le-zero l)
-pos-at (x ∷ xs) zero h l = h .0
-pos-at (x ∷ xs) (suc i) h l = pos-at xs i (h .1) (le-of-suc-le-suc l)
-
-pos-pack : (r t n s : ℕ) → 0 < r → 0 < pack r t n s
-unfolding pack
-pos-pack r t n s h = omega arith
-
-module _ (limit : ℕ) (live : ℕ → Bool) where
-  pos-flat : (f : Forest) (r lo : ℕ) → Valid limit live r lo f → AllPos (flat r f)
-  unfolding flat
-  pos-flat none r lo v = tt
-  pos-flat (level s t b kids next) r lo v =
-      (pos-pack r t (length b) s (v .0 .ranked), pos-append (flat (suc r) kids) (flat r next) (pos-flat kids (suc r) 0 (v .1)) (pos-flat next r (suc s) (v .2)))
-
-  pos-binds : (lo : ℕ) (b : List Binding) → rising live lo b ≡ true → AllPos (map bindWord b)
-  pos-binds lo [] h = tt
-  pos-binds lo (x ∷ b) h =
-      let t = binding-tests live lo x b h in
-      (omega (arith, segment-range (x .segment) (t .named)), pos-binds (suc (x .segment)) b (t .later))
-
-  pos-bound : (f : Forest) (r lo : ℕ) → Valid limit live r lo f → AllPos (map bindWord (bound f))
-  unfolding bound
-  pos-bound none r lo v = tt
-  pos-bound (level s t b kids next) r lo v =
-      rw (map-append bindWord b (bound kids ++ bound next), map-append bindWord (bound kids) (bound next))
-      (pos-append (map bindWord b) (map bindWord (bound kids) ++ map bindWord (bound next)) (pos-binds 0 b (v .0 .ordered))
-      (pos-append (map bindWord (bound kids)) (map bindWord (bound next)) (pos-bound kids (suc r) 0 (v .1)) (pos-bound next r (suc s) (v .2))))
+use Rattle.table.proofs.Moves.{AllPos, pos-at, pos-flat, pos-bound}
 
 getD-zeros : (n i : ℕ) → getD {A = ℕ} (replicate n 0) i 0 ≡ 0
 getD-zeros zero i = refl

@@ -15,7 +15,7 @@ use Rattle.table.specs.Edits.{hasLevel, insertLevel}
 use Rattle.table.specs.Inside.{Sought, here, before, missing, gone, push}
 use Rattle.table.proofs.Shape.{LevelFit, Valid, level-tests, tests-level, fit}
 use Rattle.table.proofs.Seek.{after, after-is, seekF, seek-nil}
-use Rattle.table.proofs.Moves.{push-pad}
+use Rattle.table.proofs.Moves.{AllPos, put-pad}
 
 -- what was and what is, one word w apart, which stands at index j where the first stands at k
 pub record PutIn (was is : List ℕ) (w j k : ℕ) : Type 0 where
@@ -47,12 +47,12 @@ put-around was is w j k i pre post h e =
     regroup a b c d = simp append-assoc
 
 -- the code's carry puts the word in
-pub put-words : (was is : List ℕ) (w j m : ℕ) → PutIn was is w j 0
+pub put-words : (was is : List ℕ) (w j m : ℕ) → AllPos was → PutIn was is w j 0
     → take j (was ++ replicate (suc m) 0) ++ push w (drop j (was ++ replicate (suc m) 0)) ≡ is ++ replicate m 0
-put-words was is w j m h =
+put-words was is w j m a h =
     ap (λ (l : List ℕ). take j l ++ push w (drop j l)) whole
     ∙ ap₂ {C = List ℕ} _++_ (take-at (h .pre) (h .post ++ replicate (suc m) 0) j (omega (arith, h .at)))
-    (ap (push w) (drop-at (h .pre) (h .post ++ replicate (suc m) 0) j (omega (arith, h .at))) ∙ push-pad w (h .post) m)
+    (ap (push w) (drop-at (h .pre) (h .post ++ replicate (suc m) 0) j (omega (arith, h .at))) ∙ put-pad w (h .pre) (h .post) m (rw (h .before) at a))
     ∙ sym (append-assoc (h .pre) (w ∷ h .post) (replicate m 0)) ∙ ap (λ (l : List ℕ). l ++ replicate m 0) (sym (h .now))
   where
     whole : was ++ replicate (suc m) 0 ≡ h .pre ++ (h .post ++ replicate (suc m) 0)

@@ -91,10 +91,10 @@ counts (w ∷ ws) = countOf w + counts ws
 
 -- Room made in words.
 
--- the list with c put in front, and its last element gone
+-- the list with c put in front, in place of the first spare word, or else of the last
 unfoldable pub push : ℕ → List ℕ → List ℕ
 push c [] = []
-push c (x ∷ xs) = c ∷ push x xs
+push c (x ∷ xs) = c ∷ cond (eqb x 0) xs (push x xs)
 
 -- A level with all below it is one run of records.
 

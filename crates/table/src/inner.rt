@@ -190,7 +190,7 @@ pub fn parts_fit(levels: &[u64], bindings: &[u64], objects: &[u64]) -> bool
     }
 }
 
-// Puts w at index at, and moves what stood from there on up by one; the last word is lost.
+// Puts w at index at, and moves what stood from there on up by one, into the first spare word; where there is none, the last word is lost.
 pub fn make_room(xs: &mut [u64], at: usize, w: u64)
     requires { ⌜ at ≤ length (now xs) ⌝ }
     ensures { λ _. ⌜ now (xs .exit) ≡ take at (now (xs .entry)) ++ push w (drop at (now (xs .entry))) ⌝ }
@@ -200,6 +200,9 @@ pub fn make_room(xs: &mut [u64], at: usize, w: u64)
     while i < xs.len() {
         let x = xs[i];
         xs[i] = c;
+        if x == 0 {
+            return;
+        }
         c = x;
         i += 1;
     }
