@@ -145,12 +145,12 @@ module _ (m : Limits) (hm : m .objects ≤ 2 ^ 32) (ws : List ℕ) (ok : wellFor
   word-at : getD ls at 0 ≡ getD ws at 0
   word-at = getD-take (m .levels) ws at 0 (bind-place .0)
 
-  pub word-low : m .components ≤ 256 → getD ws at 0 + 2 ^ 32 < 18446744073709551616
+  pub word-low : m .components ≤ 256 → getD ws at 0 + 2 ^ 32 < 2 ^ 64
   word-low c =
       rw (sym word-at ∙ node-is m t w hm ls bs z y (levels-are m hm ws ok) (bindings-are m hm ws ok) (scopeOf p) at lvl)
       (low (lvl .rank) (lvl .typ) (length (lvl .b)) (lvl .seg) (omega (arith, lvl .valid .0 .shallow)) (lvl .valid .0 .small) (lvl .valid .0 .few) (lvl .valid .0 .fits))
     where
-      low : (r u n s : ℕ) → r ≤ 256 → u < 8 → n < 1024 → s < 2 ^ 32 → pack r u n s + 2 ^ 32 < 18446744073709551616
+      low : (r u n s : ℕ) → r ≤ 256 → u < 8 → n < 1024 → s < 2 ^ 32 → pack r u n s + 2 ^ 32 < 2 ^ 64
       low r u n s a b c d = unfold pack in omega arith
 
   pub bind-full : m .bindings ≤ length (bound (decode m ws .levels)) → (h : ℕ) → bind m (decode m ws) p h ≡ refuses 19 0

@@ -114,7 +114,7 @@ module _ (m : Limits) (hm : m .objects ≤ 2 ^ 32) (ws : List ℕ) (ok : wellFor
           pub added-place : k ≤ length ls
           added-place = omega (arith, add-place m (decode m ws) (whole m hm ws ok) p h typ k gap, whole m hm ws ok .levels, length-ls)
 
-          pub added-new : getD ws (m .levels - 1) 0 ≡ 0 → (us : List ℕ) → us ≡ take k ls ++ push (length p * 35184372088832 + typ * 4398046511104 + lastOf p) (drop k ls)
+          pub added-new : getD ws (m .levels - 1) 0 ≡ 0 → (us : List ℕ) → us ≡ take k ls ++ push (length p * 2 ^ 45 + typ * 2 ^ 42 + lastOf p) (drop k ls)
               → record { words = us ++ drop (m .levels) ws; said = gives tt } ≡ left m ws (done (addLevel m (decode m ws) p typ))
           unfolding grown
           added-new f us u =
@@ -125,7 +125,7 @@ module _ (m : Limits) (hm : m .objects ≤ 2 ^ 32) (ws : List ℕ) (ok : wellFor
               (u ∙ ap (λ (w : ℕ). take k ls ++ push w (drop k ls)) (word (length p) typ (lastOf p)) ∙ add-words m (decode m ws) (whole m hm ws ok) p h typ k gap ls (levels-are m hm ws ok) l)
               (add-bound m (decode m ws) (whole m hm ws ok) p h typ k gap))
             where
-              word : (n t s : ℕ) → n * 35184372088832 + t * 4398046511104 + s ≡ pack n t 0 s
+              word : (n t s : ℕ) → n * 2 ^ 45 + t * 2 ^ 42 + s ≡ pack n t 0 s
               word n t s = unfold pack in omega arith
 
     -- removing

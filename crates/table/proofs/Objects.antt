@@ -65,12 +65,12 @@ none-bound : map bindWord (bound (freshTree .levels)) ≡ []
 unfolding bound
 none-bound = refl
 
-pub fresh-words : (m : Limits) → 0 < m .levels → set (replicate (size m) 0) 0 35184372088832 ≡ encode m freshTree
+pub fresh-words : (m : Limits) → 0 < m .levels → set (replicate (size m) 0) 0 (2 ^ 45) ≡ encode m freshTree
 unfolding encode pad
 fresh-words m h =
     rw (root-alone, none-bound)
-    (ap (λ (n : ℕ). set (replicate n 0) 0 35184372088832) (first (m .levels) (m .bindings) (m .objects) h)
-    ∙ ap (λ (l : List ℕ). 35184372088832 ∷ l)
+    (ap (λ (n : ℕ). set (replicate n 0) 0 (2 ^ 45)) (first (m .levels) (m .bindings) (m .objects) h)
+    ∙ ap (λ (l : List ℕ). 2 ^ 45 ∷ l)
     (sym (replicate-append-replicate (m .levels - 1) (m .bindings + suc (m .objects)) 0)
     ∙ ap (λ (l : List ℕ). replicate (m .levels - 1) 0 ++ l) (sym (replicate-append-replicate (m .bindings) (suc (m .objects)) 0) ∙ ap₂ (λ (x y : ℕ). replicate x 0 ++ (0 ∷ replicate y 0)) (less (m .bindings)) (less (m .objects)))))
   where

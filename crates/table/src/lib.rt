@@ -5,6 +5,7 @@ ghost use Rattle.table.specs.Memory.{wellFormed};
 
 pub mod inner;
 pub mod layout;
+pub mod segments;
 
 // Whether the memory holds a table.
 pub fn well_formed(table: &[u64]) -> bool
