@@ -2,16 +2,16 @@
 use mathlib.Core.Path.{_≡_, refl, ap, sym, subst, _∙_}
 use mathlib.Core.Bool.{Bool, true, false, cond}
 use mathlib.Core.List.{List, [], _∷_, _++_}
-use Prim.Native.Nat.{ℕ, zero, suc, _+_, _*_, _/_, _%_, _<_, _≤_}
+use Prim.Native.Nat.{ℕ, zero, suc, _+_, _*_, _^_, _<_, _≤_}
 use native.Mathlib.Omega.{arith}
 use native.Mathlib.Numerals.{add-one}
-use lib.Dec.{leb, ltb, eqb}
+use lib.Dec.{ltb}
 use lib.ListN.{length, take, getD, set}
 use lib.Seq.{take-suc, take-suc-set, take-all}
-use borrow.Author.Tests.{eqb-true, leb-true, ltb-true, ltb-false}
+use borrow.Author.Tests.{ltb-true, ltb-false}
 use Rattle.pkg_length.specs.Refusal.{Answer, gives, refuses, refused, andThen}
 use Rattle.pkg_length.specs.declared.AmlError.{AmlError}
-use Rattle.name_object.specs.Component.{Component, root, up, seg, leadOk, digitOk, charOk, segOk, fine, spellOne, componentLimit}
+use Rattle.name_object.specs.Component.{Component, root, up, seg, segOk, fine, spellOne, componentLimit}
 use Rattle.name_object.specs.Memory.{told, nameOf, pathOk, pathOf, pathIn}
 use Rattle.name_object.specs.declared.AmlName.{AmlName}
 use Rattle.name_object.proofs.Paths.{both, path-fine, fine-path}
@@ -28,59 +28,7 @@ use Rattle.table.specs.Inside.{Keyed}
 use Rattle.namespace.specs.Inside.{Settled}
 use Rattle.table.proofs.Shape.{clash}
 use Rattle.table.proofs.Near.{length-keys}
-
--- characters are bytes
-lead-low : (b : ℕ) → leadOk b ≡ true → b < 96
-unfolding leadOk
-lead-low b h = go (eqb b 0x5F) refl h
-  where
-    go : (t : Bool) → eqb b 0x5F ≡ t → cond t true (cond (leb 0x41 b) (leb b 0x5A) false) ≡ true → b < 96
-    go true e k = omega (arith, eqb-true b 0x5F e)
-    go false e k = omega (arith, leb-true b 0x5A (both (leb 0x41 b) (leb b 0x5A) k .1))
-
-char-low : (b : ℕ) → charOk b ≡ true → b < 96
-unfolding charOk digitOk
-char-low b h = go (leadOk b) refl h
-  where
-    go : (t : Bool) → leadOk b ≡ t → cond t true (cond (leb 0x30 b) (leb b 0x39) false) ≡ true → b < 96
-    go true e k = lead-low b e
-    go false e k = omega (arith, leb-true b 0x39 (both (leb 0x30 b) (leb b 0x39) k .1))
-
-pub record Low (a b c d : ℕ) : Type 0 where
-  pub first : a < 96
-  pub second : b < 96
-  pub third : c < 96
-  pub fourth : d < 96
-
-pub seg-low : (a b c d : ℕ) → segOk a b c d ≡ true → Low a b c d
-unfolding segOk
-seg-low a b c d h =
-    let x = both (leadOk a) _ h in
-    let y = both (charOk b) _ (x .1) in
-    let z = both (charOk c) (charOk d) (y .1) in
-    record { first = lead-low a (x .0); second = char-low b (y .0); third = char-low c (z .0); fourth = char-low d (z .1) }
-
--- a segment's number is a segment
-pub number-ok : (a b c d : ℕ) → segOk a b c d ≡ true → segmentOk (number a b c d) ≡ true
-unfolding segmentOk
-number-ok a b c d h =
-    let l = seg-low a b c d h in
-    let e₁ : number a b c d / 16777216 ≡ a = omega arith in
-    let e₂ : number a b c d / 65536 % 256 ≡ b = omega arith in
-    let e₃ : number a b c d / 256 % 256 ≡ c = omega arith in
-    let e₄ : number a b c d % 256 ≡ d = omega arith in
-    rw (e₁, e₂, e₃, e₄) h
-
--- different segments have different numbers
-pub one-key : (a b c d p q r s : ℕ) → segOk a b c d ≡ true → segOk p q r s ≡ true → number a b c d ≡ number p q r s → seg a b c d ≡ seg p q r s
-one-key a b c d p q r s h k e =
-    let l = seg-low a b c d h in
-    let m = seg-low p q r s k in
-    let e₁ : a ≡ p = omega arith in
-    let e₂ : b ≡ q = omega arith in
-    let e₃ : c ≡ r = omega arith in
-    let e₄ : d ≡ s = omega arith in
-    λ i. seg (e₁ i) (e₂ i) (e₃ i) (e₄ i)
+use Rattle.table.proofs.Numbers.{number-ok, number-low}
 
 key-getD : (cs : List Component) (i : ℕ) → getD (keys cs) i 0 ≡ key (getD cs i up)
 unfolding keys
@@ -126,7 +74,7 @@ module _ (limit : ℕ) (cs : List Component) (k : Kept limit cs) where
       let s = seg-at i z h in
       rw (key-getD cs i, s .is) (number-ok (s .a) (s .b) (s .c) (s .d) (s .ok))
 
-  key-low : (i : ℕ) → getD (keys cs) i 0 < 4294967296
+  key-low : (i : ℕ) → getD (keys cs) i 0 < 2 ^ 32
   key-low i = go i (ltb i (length cs)) refl
     where
       out : (l : List ℕ) (i : ℕ) → length l ≤ i → getD l i 0 ≡ 0
@@ -134,12 +82,11 @@ module _ (limit : ℕ) (cs : List Component) (k : Kept limit cs) where
       out (x ∷ l) zero h = absurd (omega arith)
       out (x ∷ l) (suc i) h = out l i (omega arith)
 
-      go : (i : ℕ) (t : Bool) → ltb i (length cs) ≡ t → getD (keys cs) i 0 < 4294967296
+      go : (i : ℕ) (t : Bool) → ltb i (length cs) ≡ t → getD (keys cs) i 0 < 2 ^ 32
       go zero t e = rw key-first (omega arith)
       go (suc i) true e =
           let s = seg-at (suc i) (omega arith) (ltb-true (suc i) (length cs) e) in
-          let l = seg-low (s .a) (s .b) (s .c) (s .d) (s .ok) in
-          rw (key-getD cs (suc i), s .is) (omega arith)
+          rw (key-getD cs (suc i), s .is) (omega (arith, number-low (s .a) (s .b) (s .c) (s .d)))
       go (suc i) false e = rw (out (keys cs) (suc i) (omega (arith, length-keys cs, ltb-false (suc i) (length cs) e))) (omega arith)
 
   pub kept-keyed : limit ≤ componentLimit → Keyed (keys cs)

@@ -32,6 +32,15 @@ use path::PathSaid;
 use pkg_length::AmlError;
 use table::inner::Sought;
 use table::inner::Spot;
+use table::layout::COUNT_AT;
+use table::layout::LAST_BINDING;
+use table::layout::LAST_LEVEL;
+use table::layout::LEVELS;
+use table::layout::OBJECTS;
+use table::layout::RANK;
+use table::layout::SEGMENT;
+use table::layout::TYPE;
+use table::layout::VALUES_AT;
 
 // The normal form of an absolute path.
 pub fn settled(path: AmlName) -> PathAnswer
@@ -54,13 +63,7 @@ pub fn settled(path: AmlName) -> PathAnswer
     }
 }
 
-fn wide(b: u8) -> u64
-    ensures { λ r. ⌜ (r ≡ b) × (r < 256) ⌝ }
-{
-    b as u64
-}
-
-// A path's components as the records have them: the root is 0, a segment is its four bytes as one number, the first byte highest.
+// A path's components as the records have them: the root is 0, a segment its number.
 pub fn keys_of(path: AmlName) -> [u64; 32]
     requires { ⌜ Settled path ⌝ }
     ensures { λ r. ⌜ take (path .count) r ≡ keys (pathOf path) ⌝ }
@@ -70,10 +73,12 @@ pub fn keys_of(path: AmlName) -> [u64; 32]
     let mut i = 1;
     while i < n {
         let at = 4 * i;
-        keys[i] = wide(path.bytes[at]) * 16777216
-            + wide(path.bytes[at + 1]) * 65536
-            + wide(path.bytes[at + 2]) * 256
-            + wide(path.bytes[at + 3]);
+        keys[i] = table::segments::number(
+            path.bytes[at],
+            path.bytes[at + 1],
+            path.bytes[at + 2],
+            path.bytes[at + 3],
+        );
         i += 1;
     }
     keys
@@ -102,14 +107,14 @@ pub fn add_level(table: &mut [u64], path: &[u64], typ: u64) -> EditAnswer
     if n <= 1 {
         return EditAnswer::Done;
     }
-    let found = table::inner::seek(&table[..128], path);
+    let found = table::inner::seek(&table[..LEVELS], path);
     match found {
         Sought::Here(_, _) => EditAnswer::Done,
         Sought::Missing(p) => EditAnswer::Refused(AmlError::LevelDoesNotExist(p)),
         Sought::Before(k) => {
-            if table[127] == 0 {
-                let w = n as u64 * 35184372088832 + typ * 4398046511104 + path[n - 1];
-                table::inner::make_room(&mut table[..128], k, w);
+            if table[LAST_LEVEL] == 0 {
+                let w = n as u64 * RANK + typ * TYPE + path[n - 1];
+                table::inner::make_room(&mut table[..LEVELS], k, w);
                 EditAnswer::Done
             } else {
                 EditAnswer::Refused(AmlError::LevelsFull)
@@ -127,14 +132,14 @@ pub fn remove_level(table: &mut [u64], path: &[u64]) -> EditAnswer
     if n <= 1 {
         return EditAnswer::Refused(AmlError::TriedToRemoveRootNamespace);
     }
-    let found = table::inner::seek(&table[..128], path);
+    let found = table::inner::seek(&table[..LEVELS], path);
     match found {
         Sought::Here(at, from) => {
-            let run = table::inner::subtree(&table[..128], at, from);
+            let run = table::inner::subtree(&table[..LEVELS], at, from);
             let end = run.end;
             let to = run.to;
-            table::inner::close_gap(&mut table[..128], at, end);
-            table::inner::close_gap(&mut table[128..640], from, to);
+            table::inner::close_gap(&mut table[..LEVELS], at, end);
+            table::inner::close_gap(&mut table[LEVELS..COUNT_AT], from, to);
             EditAnswer::Done
         }
         Sought::Before(_) => EditAnswer::Refused(AmlError::LevelDoesNotExist(n - 1)),
@@ -165,16 +170,16 @@ pub fn add_value(table: &mut [u64], path: &[u64], value: u64) -> HandleAnswer
         Spot::Refused(e) => HandleAnswer::Refused(e),
         Spot::Bound(_) => HandleAnswer::Refused(AmlError::NameCollision),
         Spot::Free(at, i) => {
-            if table[639] != 0 {
+            if table[LAST_BINDING] != 0 {
                 return HandleAnswer::Refused(AmlError::BindingsFull);
             }
-            let made = table[640];
-            if 512 <= made {
+            let made = table[COUNT_AT];
+            if OBJECTS as u64 <= made {
                 return HandleAnswer::Refused(AmlError::ObjectsFull);
             }
-            table::inner::bind(table, at, i, path[path.len() - 1] * 4294967296 + made);
-            table[641 + made as usize] = value;
-            table[640] = made + 1;
+            table::inner::bind(table, at, i, path[path.len() - 1] * SEGMENT + made);
+            table[VALUES_AT + made as usize] = value;
+            table[COUNT_AT] = made + 1;
             HandleAnswer::Handle(AmlHandle(made as u32))
         }
     }
@@ -194,14 +199,14 @@ pub fn add_alias(table: &mut [u64], path: &[u64], target: &[u64]) -> HandleAnswe
                 Spot::Refused(e) => HandleAnswer::Refused(e),
                 Spot::Bound(_) => HandleAnswer::Refused(AmlError::NameCollision),
                 Spot::Free(at, i) => {
-                    if table[639] != 0 {
+                    if table[LAST_BINDING] != 0 {
                         return HandleAnswer::Refused(AmlError::BindingsFull);
                     }
                     table::inner::bind(
                         table,
                         at,
                         i,
-                        path[path.len() - 1] * 4294967296 + handle.0 as u64,
+                        path[path.len() - 1] * SEGMENT + handle.0 as u64,
                     );
                     HandleAnswer::Handle(handle)
                 }
@@ -216,9 +221,9 @@ pub fn read(table: &[u64], handle: AmlHandle) -> ValueAnswer
     ensures { λ r. ⌜ valueSaid r ≡ valueOf (decode limits (now (table .entry))) (handle .0) ⌝ }
 {
     let h = handle.0 as usize;
-    let made = table[640] as usize;
+    let made = table[COUNT_AT] as usize;
     if h < made {
-        ValueAnswer::Value(table[641 + h])
+        ValueAnswer::Value(table[VALUES_AT + h])
     } else {
         ValueAnswer::Refused(AmlError::NoSuchHandle)
     }
@@ -229,9 +234,9 @@ pub fn write(table: &mut [u64], handle: AmlHandle, value: u64) -> EditAnswer
     ensures { λ r. ⌜ editLeft (now (table .exit)) r ≡ left limits (now (table .entry)) (done (setValue (decode limits (now (table .entry))) (handle .0) value)) ⌝ }
 {
     let h = handle.0 as usize;
-    let made = table[640] as usize;
+    let made = table[COUNT_AT] as usize;
     if h < made {
-        table[641 + h] = value;
+        table[VALUES_AT + h] = value;
         EditAnswer::Done
     } else {
         EditAnswer::Refused(AmlError::NoSuchHandle)
@@ -333,10 +338,7 @@ fn bare_key(path: AmlName) -> u64
     requires { ⌜ Bare path ⌝ }
     ensures { λ r. ⌜ r ≡ key (firstOf (pathOf path)) ⌝ }
 {
-    wide(path.bytes[0]) * 16777216
-        + wide(path.bytes[1]) * 65536
-        + wide(path.bytes[2]) * 256
-        + wide(path.bytes[3])
+    table::segments::number(path.bytes[0], path.bytes[1], path.bytes[2], path.bytes[3])
 }
 
 // A bare segment in the scope of a path's first n components.
@@ -361,7 +363,12 @@ fn search_up(table: &[u64], path: AmlName, scope: AmlName) -> SearchAnswer
     let n = scope.count;
     let keys = keys_of(scope);
     let seg = bare_key(path);
-    let found = table::inner::nearest_value(&table[..128], &table[128..640], &keys[..n], seg);
+    let found = table::inner::nearest_value(
+        &table[..LEVELS],
+        &table[LEVELS..COUNT_AT],
+        &keys[..n],
+        seg,
+    );
     let depth = found.depth;
     if depth == 0 {
         return not_found(AmlError::ValueDoesNotExist);
@@ -423,7 +430,7 @@ fn level_up(table: &[u64], path: AmlName, scope: AmlName) -> LevelAnswer
     let n = scope.count;
     let keys = keys_of(scope);
     let seg = bare_key(path);
-    let depth = table::inner::nearest_level(&table[..128], &keys[..n], seg);
+    let depth = table::inner::nearest_level(&table[..LEVELS], &keys[..n], seg);
     if depth == 0 {
         return no_level(AmlError::LevelDoesNotExist(1));
     }

@@ -106,13 +106,17 @@ four a b c d h =
     let z = both (charOk c) (charOk d) (y .1) in
     record { first = lead-is a (x .0) .0; lead = lead-is a (x .0) .1; second = char-is b (y .0); third = char-is c (z .0); fourth = char-is d (z .1) }
 
-pub char-low : (c : ℕ) → charNumber c < 37
+char-low : (c : ℕ) → charNumber c < 37
 unfolding charNumber
 char-low c = ⊎-elim (λ l. rw (lt-ltb c 0x3A l) (omega arith)) (λ k. ⊎-elim (λ l. rw (le-ltb c 0x3A k, lt-ltb c 0x5B l) (omega arith)) (λ l. rw (le-ltb c 0x3A k, le-ltb c 0x5B l) (omega arith)) (lt-or-le c 0x5B)) (lt-or-le c 0x3A)
 
-pub segment-range : (s : ℕ) → segmentOk s ≡ true → (506530 ≤ s) × (s < 1874161)
+-- four bytes of any kind have a number that low
+pub number-low : (a b c d : ℕ) → number a b c d < 37 ^ 4
+number-low a b c d = omega (arith, char-low a, char-low b, char-low c, char-low d)
+
+pub segment-range : (s : ℕ) → segmentOk s ≡ true → (10 * 37 ^ 3 ≤ s) × (s < 37 ^ 4)
 unfolding segmentOk
-segment-range s h = let g = both-of (leb 506530 s) (ltb s 1874161) h in (leb-true 506530 s (g .0), ltb-true s 1874161 (g .1))
+segment-range s h = let g = both-of (leb (10 * 37 ^ 3) s) (ltb s (37 ^ 4)) h in (leb-true (10 * 37 ^ 3) s (g .0), ltb-true s (37 ^ 4) (g .1))
 
 -- a segment's number is one of a segment
 pub number-ok : (a b c d : ℕ) → segOk a b c d ≡ true → segmentOk (number a b c d) ≡ true
@@ -124,7 +128,7 @@ number-ok a b c d h =
     let y = below (f .second) in
     let z = below (f .third) in
     let w = below (f .fourth) in
-    rw (le-leb 506530 (number a b c d) (omega arith), lt-ltb (number a b c d) 1874161 (omega arith))
+    rw (le-leb (10 * 37 ^ 3) (number a b c d) (omega arith), lt-ltb (number a b c d) (37 ^ 4) (omega arith))
 
 -- the characters come back from the number
 pub segment-back : (a b c d : ℕ) → segOk a b c d ≡ true → segmentOf (number a b c d) ≡ seg a b c d

@@ -45,7 +45,7 @@ restOk live last ws = ltb last (37 ^ 4 * 2 ^ 32) && rising live (last / 2 ^ 32 +
 rising-first : (live : ℕ → Bool) (bs : List Binding) → rising live (10 * 37 ^ 3) bs ≡ rising live 0 bs
 unfolding rising segmentOk
 rising-first live [] = refl
-rising-first live (b ∷ bs) = rw (le-leb 0 (b .segment) (omega arith)) (go (leb 506530 (b .segment)) (ltb (b .segment) 1874161) (live (b .handle)))
+rising-first live (b ∷ bs) = rw (le-leb 0 (b .segment) (omega arith)) (go (leb (10 * 37 ^ 3) (b .segment)) (ltb (b .segment) (37 ^ 4)) (live (b .handle)))
   where
     go : (x y z : Bool) → (x && (x && y) && z && rising live (suc (b .segment)) bs) ≡ ((x && y) && z && rising live (suc (b .segment)) bs)
     go true y z = refl

@@ -1,6 +1,6 @@
 -- One law for each answer, by where the last segment is.
 use mathlib.Core.Path.{ap, _∙_}
-use Prim.Native.Nat.{_+_, _*_, _-_}
+use Prim.Native.Nat.{_+_, _*_, _-_, _^_}
 use lib.ListN.{length, getD, length-set}
 use Rattle.table.specs.Limits.{limits}
 use Rattle.table.proofs.Objects.{long}
@@ -103,7 +103,7 @@ slice-write-table c =
       arith,
       c5 .if2 .left,
       ap length (c .before .before .bind .ensures)
-          ∙ bind-length limits ws (c10 .found2 .given .0 .0) (c10 .found2 .given .0 .1 .0) (getD (c16 .args .path .now) (length (c16 .args .path .now) - 1) 0 * 4294967296 + getD ws 640 0),
+          ∙ bind-length limits ws (c10 .found2 .given .0 .0) (c10 .found2 .given .0 .1 .0) (getD (c16 .args .path .now) (length (c16 .args .path .now) - 1) 0 * 2 ^ 32 + getD ws 640 0),
       long limits (omega arith) ws (c16 .pre .0),
     )
 
@@ -115,7 +115,7 @@ slice-write-table-2 c =
     let c10 = c .before .before .before .before .before .before .before .before .before .before in
     let c16 = c10 .before .before .before .before .before .before in
     let ws = c16 .args .table .now in
-    let n = ap length (c .before .before .bind .ensures) ∙ bind-length limits ws (c10 .found2 .given .0 .0) (c10 .found2 .given .0 .1 .0) (getD (c16 .args .path .now) (length (c16 .args .path .now) - 1) 0 * 4294967296 + getD ws 640 0)
+    let n = ap length (c .before .before .bind .ensures) ∙ bind-length limits ws (c10 .found2 .given .0 .0) (c10 .found2 .given .0 .1 .0) (getD (c16 .args .path .now) (length (c16 .args .path .now) - 1) 0 * 2 ^ 32 + getD ws 640 0)
     ∙ long limits (omega arith) ws (c16 .pre .0) in simp length-set (omega arith)
 
 cast-t30 : tie.Need-cast-t30

@@ -3,7 +3,7 @@ use mathlib.Core.Path.{_≡_, refl, ap, sym, _∙_}
 use Prim.Native.Nat.{ℕ, _-_, _≤_, _<_}
 use lib.ListN.{length, take, length-set}
 use Rattle.name_object.specs.Memory.{pathOf}
-use Rattle.table.specs.Tree.{number, keys as keysOf}
+use Rattle.table.specs.Tree.{keys as keysOf}
 use Rattle.namespace.proofs.Keys.{settled-count, keys-first, keys-turn, keys-whole}
 use borrow.Author.Needs.{needs}
 use native.Mathlib.Omega.{arith}
@@ -26,16 +26,15 @@ loop-holds c =
 
 loop-again : tie.Need-loop-again Inv-loop μ-loop
 loop-again c =
-    let l = c .before .before .before .before .before .before .before .before .before .loop in
-    let a = c .before .before .before .before .before .before .before .before .before .before .args in
-    let len : length (a .t1 .bytes) ≡ 128 = search needs in (
+    let l = c .before .before .before .before .before .before .loop in
+    let s = c .before .before .before .before .before .before .before in
+    let len : length (s .args .t1 .bytes) ≡ 128 = search needs in (
       omega arith,
       refl,
       omega arith,
       omega arith,
       simp length-set (l .inv .4),
-      keys-turn (a .t1) len (c .before .before .before .before .before .before .before .before .before .before .pre) (l .keys) (l .i) _ (omega arith) (omega arith) (omega arith) (l .inv .5)
-          (λ k. number (c .before .before .before .before .before .before .wide .ensures .0 k) (c .before .before .before .before .wide2 .ensures .0 k) (c .before .before .wide3 .ensures .0 k) (c .wide4 .ensures .0 k)),
+      keys-turn (s .args .t1) len (s .pre) (l .keys) (l .i) _ (omega arith) (omega arith) (omega arith) (l .inv .5) (c .number .ensures),
     )
 
 returns : tie.Need-returns Inv-loop μ-loop
@@ -48,7 +47,6 @@ returns c =
 
 pub keys-of-spec : {M : Type 1} → statement M
 keys-of-spec =
-    tie.close (tie.spec Inv-loop μ-loop loop-holds (λ c. search needs) (λ c. search needs) (λ c κs. search needs) (λ c. search needs) (λ c. search needs)
-    (λ c. search needs) (λ c κs. search needs) (λ c. search needs) (λ c. search needs) (λ c. search needs) (λ c. search needs) (λ c κs. search needs)
-    (λ c. search needs) (λ c. search needs) (λ c. search needs) (λ c. search needs) (λ c κs. search needs) (λ c. search needs) (λ c. search needs)
-    (λ c. search needs) (λ c. search needs) (λ c. search needs) loop-again returns)
+    tie.close (tie.spec Inv-loop μ-loop loop-holds (λ c. search needs) (λ c. search needs) (λ c. search needs) (λ c. search needs) (λ c. search needs)
+    (λ c. search needs) (λ c. search needs) (λ c. search needs) (λ c κs. search needs) (λ c. search needs) (λ c. search needs) (λ c. search needs)
+    (λ c. search needs) loop-again returns)
