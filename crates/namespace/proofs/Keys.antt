@@ -2,7 +2,7 @@
 use mathlib.Core.Path.{_≡_, refl, ap, sym, subst, _∙_}
 use mathlib.Core.Bool.{Bool, true, false, cond}
 use mathlib.Core.List.{List, [], _∷_, _++_}
-use Prim.Native.Nat.{ℕ, zero, suc, _+_, _*_, _<_, _≤_}
+use Prim.Native.Nat.{ℕ, zero, suc, _+_, _*_, _^_, _<_, _≤_}
 use native.Mathlib.Omega.{arith}
 use native.Mathlib.Numerals.{add-one}
 use lib.Dec.{ltb}
@@ -23,7 +23,7 @@ use Rattle.path.proofs.Walks.{length-path, path-byte}
 use Rattle.path.proofs.Answers.{said-done, said-refused}
 use Rattle.table.specs.Tree.{number, key, keys}
 use Rattle.table.specs.Valid.{segmentOk}
-use Rattle.table.proofs.Segments.{number-ok, number-low}
+use Rattle.table.proofs.Numbers.{number-ok, number-low}
 use Rattle.namespace.specs.Calls.{settled, settledKeys, resolvedKeys}
 use Rattle.table.specs.Inside.{Keyed}
 use Rattle.namespace.specs.Inside.{Settled, KeysIn, Keys, Ready}
@@ -84,7 +84,7 @@ module _ (limit : ℕ) (cs : List Component) (k : Kept limit cs) where
       let s = seg-at i z h in
       rw (key-getD cs i, s .is) (number-ok (s .a) (s .b) (s .c) (s .d) (s .ok))
 
-  key-low : (i : ℕ) → getD (keys cs) i 0 < 4294967296
+  key-low : (i : ℕ) → getD (keys cs) i 0 < 2 ^ 32
   key-low i = go i (ltb i (length cs)) refl
     where
       out : (l : List ℕ) (i : ℕ) → length l ≤ i → getD l i 0 ≡ 0
@@ -92,11 +92,11 @@ module _ (limit : ℕ) (cs : List Component) (k : Kept limit cs) where
       out (x ∷ l) zero h = absurd (omega arith)
       out (x ∷ l) (suc i) h = out l i (omega arith)
 
-      go : (i : ℕ) (t : Bool) → ltb i (length cs) ≡ t → getD (keys cs) i 0 < 4294967296
+      go : (i : ℕ) (t : Bool) → ltb i (length cs) ≡ t → getD (keys cs) i 0 < 2 ^ 32
       go zero t e = rw key-first (omega arith)
       go (suc i) true e =
           let s = seg-at (suc i) (omega arith) (ltb-true (suc i) (length cs) e) in
-          rw (key-getD cs (suc i), s .is) (number-low (s .a) (s .b) (s .c) (s .d) (s .ok))
+          rw (key-getD cs (suc i), s .is) (omega (arith, number-low (s .a) (s .b) (s .c) (s .d)))
       go (suc i) false e = rw (out (keys cs) (suc i) (omega (arith, length-keys cs, ltb-false (suc i) (length cs) e))) (omega arith)
 
   pub kept-keyed : limit ≤ componentLimit → Keyed (keys cs)

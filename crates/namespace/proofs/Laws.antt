@@ -4,7 +4,7 @@ use mathlib.Core.Path.{_≡_, refl, ap, sym, subst, _∙_}
 use mathlib.Core.Bool.{true}
 use mathlib.Core.Logic.{_↔_}
 use mathlib.Core.List.{List, [], _∷_, _++_}
-use Prim.Native.Nat.{ℕ, zero, suc, _+_, _-_, _<_, _≤_}
+use Prim.Native.Nat.{ℕ, zero, suc, _+_, _-_, _<_, _≤_, _^_}
 use native.Mathlib.Omega.{arith}
 use lib.ListN.{length, take}
 use lib.Seq.{length-take-le}
@@ -65,7 +65,7 @@ type-low ThermalZone = omega arith
 type-low MethodLocals = omega arith
 
 -- what a call makes of any memory is well-formed again
-pub new-leaves-it-well-formed : (m : Limits) (ws : List ℕ) → m .objects ≤ 4294967296 → 0 < m .levels → 0 < m .components → length ws ≡ size m → wellFormed m (left m ws (newCall m ws) .words) ≡ true
+pub new-leaves-it-well-formed : (m : Limits) (ws : List ℕ) → m .objects ≤ 2 ^ 32 → 0 < m .levels → 0 < m .components → length ws ≡ size m → wellFormed m (left m ws (newCall m ws) .words) ≡ true
 unfolding newCall
 new-leaves-it-well-formed m ws hm h k l = rw (eq-eqb (length ws) (size m) l) (fresh-is-well-formed m hm h k)
 
@@ -79,7 +79,7 @@ pub record Made (m : Limits) (ws us : List ℕ) (a : Answer (List ℕ)) (did : T
   pub keyed : a ≡ gives path
   pub work : did before after path
 
-module _ (m : Limits) (hm : m .objects ≤ 4294967296) (cap : m .bindings < 1024) (ws : List ℕ) (ok : wellFormed m ws ≡ true) where
+module _ (m : Limits) (hm : m .objects ≤ 2 ^ 32) (cap : m .bindings < 1024) (ws : List ℕ) (ok : wellFormed m ws ≡ true) where
   whole : Whole m (decode m ws)
   whole = valid-whole m (decode m ws) (formed-whole m ws ok .0)
 

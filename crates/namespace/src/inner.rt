@@ -33,6 +33,15 @@ use path::PathSaid;
 use pkg_length::AmlError;
 use table::inner::Sought;
 use table::inner::Spot;
+use table::layout::COUNT_AT;
+use table::layout::LAST_BINDING;
+use table::layout::LAST_LEVEL;
+use table::layout::LEVELS;
+use table::layout::OBJECTS;
+use table::layout::RANK;
+use table::layout::SEGMENT;
+use table::layout::TYPE;
+use table::layout::VALUES_AT;
 
 // The normal form of an absolute path.
 pub fn settled(path: AmlName) -> PathAnswer
@@ -67,7 +76,7 @@ fn keys_of(path: AmlName) -> [u64; 32]
             return keys;
         }
         let at = 4 * i;
-        keys[i] = table::inner::segment_number(
+        keys[i] = table::segments::number(
             path.bytes[at],
             path.bytes[at + 1],
             path.bytes[at + 2],
@@ -161,14 +170,14 @@ pub fn add_level(table: &mut [u64], path: &[u64], typ: u64) -> EditAnswer
     if n <= 1 {
         return EditAnswer::Done;
     }
-    let found = table::inner::seek(&table[..128], path);
+    let found = table::inner::seek(&table[..LEVELS], path);
     match found {
         Sought::Here(_, _) => EditAnswer::Done,
         Sought::Missing(p) => EditAnswer::Refused(AmlError::LevelDoesNotExist(p)),
         Sought::Before(k) => {
-            if table[127] == 0 {
-                let w = n as u64 * 35184372088832 + typ * 4398046511104 + path[n - 1];
-                table::inner::make_room(&mut table[..128], k, w);
+            if table[LAST_LEVEL] == 0 {
+                let w = n as u64 * RANK + typ * TYPE + path[n - 1];
+                table::inner::make_room(&mut table[..LEVELS], k, w);
                 EditAnswer::Done
             } else {
                 EditAnswer::Refused(AmlError::LevelsFull)
@@ -186,14 +195,14 @@ pub fn remove_level(table: &mut [u64], path: &[u64]) -> EditAnswer
     if n <= 1 {
         return EditAnswer::Refused(AmlError::TriedToRemoveRootNamespace);
     }
-    let found = table::inner::seek(&table[..128], path);
+    let found = table::inner::seek(&table[..LEVELS], path);
     match found {
         Sought::Here(at, from) => {
-            let run = table::inner::subtree(&table[..128], at, from);
+            let run = table::inner::subtree(&table[..LEVELS], at, from);
             let end = run.end;
             let to = run.to;
-            table::inner::close_gap(&mut table[..128], at, end);
-            table::inner::close_gap(&mut table[128..640], from, to);
+            table::inner::close_gap(&mut table[..LEVELS], at, end);
+            table::inner::close_gap(&mut table[LEVELS..COUNT_AT], from, to);
             EditAnswer::Done
         }
         Sought::Before(_) => EditAnswer::Refused(AmlError::LevelDoesNotExist(n - 1)),
@@ -224,16 +233,16 @@ pub fn add_value(table: &mut [u64], path: &[u64], value: u64) -> HandleAnswer
         Spot::Refused(e) => HandleAnswer::Refused(e),
         Spot::Bound(_) => HandleAnswer::Refused(AmlError::NameCollision),
         Spot::Free(at, i) => {
-            if table[639] != 0 {
+            if table[LAST_BINDING] != 0 {
                 return HandleAnswer::Refused(AmlError::BindingsFull);
             }
-            let made = table[640];
-            if 512 <= made {
+            let made = table[COUNT_AT];
+            if OBJECTS as u64 <= made {
                 return HandleAnswer::Refused(AmlError::ObjectsFull);
             }
-            table::inner::bind(table, at, i, path[path.len() - 1] * 4294967296 + made);
-            table[641 + made as usize] = value;
-            table[640] = made + 1;
+            table::inner::bind(table, at, i, path[path.len() - 1] * SEGMENT + made);
+            table[VALUES_AT + made as usize] = value;
+            table[COUNT_AT] = made + 1;
             HandleAnswer::Handle(AmlHandle(made as u32))
         }
     }
@@ -253,14 +262,14 @@ pub fn add_alias(table: &mut [u64], path: &[u64], target: &[u64]) -> HandleAnswe
                 Spot::Refused(e) => HandleAnswer::Refused(e),
                 Spot::Bound(_) => HandleAnswer::Refused(AmlError::NameCollision),
                 Spot::Free(at, i) => {
-                    if table[639] != 0 {
+                    if table[LAST_BINDING] != 0 {
                         return HandleAnswer::Refused(AmlError::BindingsFull);
                     }
                     table::inner::bind(
                         table,
                         at,
                         i,
-                        path[path.len() - 1] * 4294967296 + handle.0 as u64,
+                        path[path.len() - 1] * SEGMENT + handle.0 as u64,
                     );
                     HandleAnswer::Handle(handle)
                 }
@@ -275,9 +284,9 @@ pub fn read(table: &[u64], handle: AmlHandle) -> ValueAnswer
     ensures { λ r. ⌜ valueSaid r ≡ valueOf (decode limits (now (table .entry))) (handle .0) ⌝ }
 {
     let h = handle.0 as usize;
-    let made = table[640] as usize;
+    let made = table[COUNT_AT] as usize;
     if h < made {
-        ValueAnswer::Value(table[641 + h])
+        ValueAnswer::Value(table[VALUES_AT + h])
     } else {
         ValueAnswer::Refused(AmlError::NoSuchHandle)
     }
@@ -288,9 +297,9 @@ pub fn write(table: &mut [u64], handle: AmlHandle, value: u64) -> EditAnswer
     ensures { λ r. ⌜ editLeft (now (table .exit)) r ≡ left limits (now (table .entry)) (done (setValue (decode limits (now (table .entry))) (handle .0) value)) ⌝ }
 {
     let h = handle.0 as usize;
-    let made = table[640] as usize;
+    let made = table[COUNT_AT] as usize;
     if h < made {
-        table[641 + h] = value;
+        table[VALUES_AT + h] = value;
         EditAnswer::Done
     } else {
         EditAnswer::Refused(AmlError::NoSuchHandle)
@@ -390,7 +399,7 @@ fn bare_key(path: AmlName) -> u64
     requires { ⌜ Bare componentLimit path ⌝ }
     ensures { λ r. ⌜ r ≡ key (firstOf (pathOf path)) ⌝ }
 {
-    table::inner::segment_number(path.bytes[0], path.bytes[1], path.bytes[2], path.bytes[3])
+    table::segments::number(path.bytes[0], path.bytes[1], path.bytes[2], path.bytes[3])
 }
 
 // A bare segment in the scope of a path's first n components.
@@ -415,7 +424,12 @@ fn search_up(table: &[u64], path: AmlName, scope: AmlName) -> SearchAnswer
     let n = scope.count;
     let keys = keys_of(scope);
     let seg = bare_key(path);
-    let found = table::inner::nearest_value(&table[..128], &table[128..640], &keys[..n], seg);
+    let found = table::inner::nearest_value(
+        &table[..LEVELS],
+        &table[LEVELS..COUNT_AT],
+        &keys[..n],
+        seg,
+    );
     let depth = found.depth;
     if depth == 0 {
         return not_found(AmlError::ValueDoesNotExist);
@@ -478,7 +492,7 @@ fn level_up(table: &[u64], path: AmlName, scope: AmlName) -> LevelAnswer
     let n = scope.count;
     let keys = keys_of(scope);
     let seg = bare_key(path);
-    let depth = table::inner::nearest_level(&table[..128], &keys[..n], seg);
+    let depth = table::inner::nearest_level(&table[..LEVELS], &keys[..n], seg);
     if depth == 0 {
         return no_level(AmlError::LevelDoesNotExist(1));
     }

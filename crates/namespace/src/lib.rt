@@ -74,9 +74,9 @@ pub struct LevelAnswer {
 pub fn new(table: &mut [u64]) -> EditAnswer
     ensures { λ r. ⌜ editLeft (now (table .exit)) r ≡ left limits (now (table .entry)) (newCall limits (now (table .entry))) ⌝ }
 {
-    if table.len() == 1153 {
+    if table.len() == table::layout::WORDS {
         table::inner::clear(table);
-        table[0] = 35184372088832;
+        table[0] = table::layout::RANK;
         EditAnswer::Done
     } else {
         EditAnswer::Refused(AmlError::BadTable)

@@ -1,6 +1,6 @@
 -- What an edit leaves of the rest, on trees: what was added is found, what was removed is gone, and every other name, level and object answers as before.
 use mathlib.Core.Path.{_≡_, refl, ap, sym, subst, _∙_}
-use mathlib.Core.Bool.{Bool, true, false, cond}
+use mathlib.Core.Bool.{Bool, true, false, cond, _&&_, _||_}
 use mathlib.Core.List.{List, [], _∷_, _++_, append-nil}
 use Prim.Native.Nat.{ℕ, suc, _+_, _-_, _<_, _≤_}
 use native.Mathlib.Omega.{arith}
@@ -10,11 +10,11 @@ use lib.Seq.{getD-at, getD-set-same, getD-set-other}
 use borrow.Author.Tests.{eq-eqb, ne-eqb, eqb-true, leb-false, lt-leb, lt-ltb, le-ltb, ltb-true, ltb-false}
 use Rattle.pkg_length.specs.Refusal.{Answer, gives, refuses, andThen}
 use Rattle.table.specs.Limits.{Limits}
-use Rattle.table.specs.Tree.{Binding, Forest, none, level, Tree, Level, bound, levelCount}
+use Rattle.table.specs.Tree.{Binding, Forest, none, level, Tree, Level, isLive, bound, levelCount}
 use Rattle.table.specs.Memory.{Edited}
 use Rattle.table.specs.Edits.{levelAt, Change, alter, scopeOf, lastOf, hasLevel, insertLevel, insertBinding, withChild, withBinding, without, withLevels, withObjects, nextHandle, handleIn, isBound, addLevel, removeLevel, lookUp, bind, addValue, addAlias, valueOf, setValue}
-use Rattle.name_object.proofs.Paths.{both}
-use Rattle.table.proofs.Shape.{clash, Valid}
+use Rattle.table.proofs.Facts.{clash, both}
+use Rattle.table.proofs.Shape.{Valid}
 use Rattle.table.proofs.Whole.{Whole}
 use Rattle.table.proofs.Seek.{late}
 use Rattle.table.proofs.Held.{split-last}
@@ -31,7 +31,7 @@ no-gift e = absurd (let z : _≡_ {A = ℕ} 0 1 = cc in omega arith)
 unfoldable pub under : List ℕ → List ℕ → Bool
 under [] q = true
 under (x ∷ p) [] = false
-under (x ∷ p) (y ∷ q) = cond (eqb x y) (under p q) false
+under (x ∷ p) (y ∷ q) = eqb x y && under p q
 
 same-eqb : (x : ℕ) → eqb x x ≡ true
 same-eqb x = eq-eqb x x refl
@@ -47,13 +47,13 @@ under-rest [] q h = (q, refl)
 under-rest (x ∷ p) [] h = clash (sym h)
 under-rest (x ∷ p) (y ∷ q) h = go (eqb x y) refl (under-rest p q) h
   where
-    go : (e : Bool) → eqb x y ≡ e → (under p q ≡ true → (r : List ℕ) × (q ≡ p ++ r)) → cond e (under p q) false ≡ true → (r : List ℕ) × (y ∷ q ≡ x ∷ (p ++ r))
+    go : (e : Bool) → eqb x y ≡ e → (under p q ≡ true → (r : List ℕ) × (q ≡ p ++ r)) → e && under p q ≡ true → (r : List ℕ) × (y ∷ q ≡ x ∷ (p ++ r))
     go true e i h =
         let k = i h in
         (k .0, λ j. sym (eqb-true x y e) j ∷ (k .1 j))
     go false e i h = clash (sym h)
 
-under-one : (x y : ℕ) (q : List ℕ) → under (x ∷ []) (y ∷ q) ≡ cond (eqb x y) true false
+under-one : (x y : ℕ) (q : List ℕ) → under (x ∷ []) (y ∷ q) ≡ eqb x y && true
 unfolding under
 under-one x y q = refl
 
@@ -85,7 +85,7 @@ inside n l [] = gives l
 inside n l (x ∷ q) = levelAt (suc n) (l .children) (x ∷ q)
 
 abbrev made : ℕ → ℕ → List Binding → Forest → Level
-made s t b kids = record { bindings = b; children = kids }
+made s t b kids = record { segment = s; typ = t; bindings = b; children = kids }
 
 abbrev altered : Change → ℕ → ℕ → List Binding → Forest → Forest → List ℕ → Forest
 altered g s t b kids next [] = g s t b kids next
@@ -136,7 +136,7 @@ module _ (g : Change) (later : Sibling g) where
       ap held (level-nil n (alter g (level s′ t b kids next) (s ∷ p)) ∙ sym (level-nil n (level s′ t b kids next)))
   frame (level s′ t b kids next) (s ∷ p) (y ∷ q) n u = go (eqb s′ s) (eqb s′ y) refl refl (frame kids) (frame next (s ∷ p) (y ∷ q) n u)
     where
-      meet : eqb s′ s ≡ true → eqb s′ y ≡ true → cond (eqb s y) (under p q) false ≡ false → under p q ≡ false
+      meet : eqb s′ s ≡ true → eqb s′ y ≡ true → eqb s y && under p q ≡ false → under p q ≡ false
       meet d e h = sym (rw (eq-eqb s y (sym (eqb-true s′ s d) ∙ eqb-true s′ y e))) ∙ h
 
       below : (p q : List ℕ) → under p q ≡ false → ((p q : List ℕ) (n : ℕ) → under p q ≡ false → held (levelAt n (alter g kids p) q) ≡ held (levelAt n kids q))
@@ -258,8 +258,8 @@ without-later : Sibling without
 unfolding without
 without-later s t b kids next n y q e = refl
 
-module _ (limit count : ℕ) where
-  gone : (f : Forest) (p r : List ℕ) (n rank lo : ℕ) (l : Level) → Valid limit count rank lo f → levelAt n f p ≡ gives l → levelAt n (alter without f p) (p ++ r) ≡ refuses 15 (n + (length p - 1))
+module _ (limit : ℕ) (live : ℕ → Bool) where
+  gone : (f : Forest) (p r : List ℕ) (n rank lo : ℕ) (l : Level) → Valid limit live rank lo f → levelAt n f p ≡ gives l → levelAt n (alter without f p) (p ++ r) ≡ refuses 15 (n + (length p - 1))
   gone none p r n rank lo l v h = no-gift (sym (level-none n p) ∙ h)
   gone (level s′ t b kids next) [] r n rank lo l v h = no-gift (sym (level-nil n (level s′ t b kids next)) ∙ h)
   gone (level s′ t b kids next) (s ∷ p) r n rank lo l v h =
@@ -270,7 +270,7 @@ module _ (limit count : ℕ) where
           → levelAt n (level s′ t b kids next) (s ∷ p) ≡ gives l → levelAt n (alter without (level s′ t b kids next) (s ∷ p)) (s ∷ (p ++ r)) ≡ refuses 15 (n + (suc (length p) - 1))
       go [] true e i j h =
           ap (λ (f : Forest). levelAt n f (s ∷ r)) (alter-hit s′ t b kids next s without [] e ∙ without-is s′ t b kids next)
-          ∙ late limit count next rank (suc s′) n s r (v .2) (omega (arith, eqb-true s′ s e)) ∙ ap (refuses 15) (first n)
+          ∙ late limit live next rank (suc s′) n s r (v .2) (omega (arith, eqb-true s′ s e)) ∙ ap (refuses 15) (first n)
         where
           first : (n : ℕ) → n ≡ n + (1 - 1)
           first n = omega arith
@@ -291,7 +291,7 @@ unfolding hasLevel
 has-level s none n h = clash (sym h)
 has-level s (level s′ t b kids next) n h = go (eqb s′ s) refl (has-level s next n) h
   where
-    go : (e : Bool) → eqb s′ s ≡ e → (hasLevel s next ≡ true → (l : Level) × (levelAt n next (s ∷ []) ≡ gives l)) → cond e true (hasLevel s next) ≡ true
+    go : (e : Bool) → eqb s′ s ≡ e → (hasLevel s next ≡ true → (l : Level) × (levelAt n next (s ∷ []) ≡ gives l)) → e || hasLevel s next ≡ true
         → (l : Level) × (levelAt n (level s′ t b kids next) (s ∷ []) ≡ gives l)
     go true e i h = (made s′ t b kids, level-hit s′ t b kids next s n [] e)
     go false e i h = let k = i h in (k .0, level-miss s′ t b kids next s n [] e ∙ k .1)
@@ -301,7 +301,7 @@ unfolding insertLevel hasLevel
 insert-found s typ none n q h = level-hit s typ [] none none s n q (same-eqb s)
 insert-found s typ (level s′ t b kids next) n q h = go (ltb s s′) (eqb s′ s) refl (insert-found s typ next n q) h
   where
-    go : (x e : Bool) → eqb s′ s ≡ e → (hasLevel s next ≡ false → levelAt n (insertLevel s typ next) (s ∷ q) ≡ inside n (made s typ [] none) q) → cond e true (hasLevel s next) ≡ false
+    go : (x e : Bool) → eqb s′ s ≡ e → (hasLevel s next ≡ false → levelAt n (insertLevel s typ next) (s ∷ q) ≡ inside n (made s typ [] none) q) → e || hasLevel s next ≡ false
         → levelAt n (cond x (level s typ [] none (level s′ t b kids next)) (level s′ t b kids (insertLevel s typ next))) (s ∷ q) ≡ inside n (made s typ [] none) q
     go true e d i h = level-hit s typ [] none (level s′ t b kids next) s n q (same-eqb s)
     go false true d i h = clash h
@@ -324,7 +324,7 @@ unfolding insertBinding handleIn isBound
 bound-found x [] h = rw (same-eqb (x .segment))
 bound-found x (y ∷ b) h = go (ltb (x .segment) (y .segment)) (eqb (y .segment) (x .segment)) refl (bound-found x b) h
   where
-    go : (z e : Bool) → eqb (y .segment) (x .segment) ≡ e → (isBound (x .segment) b ≡ false → handleIn (x .segment) (insertBinding x b) ≡ gives (x .handle)) → cond e true (isBound (x .segment) b) ≡ false
+    go : (z e : Bool) → eqb (y .segment) (x .segment) ≡ e → (isBound (x .segment) b ≡ false → handleIn (x .segment) (insertBinding x b) ≡ gives (x .handle)) → e || isBound (x .segment) b ≡ false
         → handleIn (x .segment) (cond z (x ∷ y ∷ b) (y ∷ insertBinding x b)) ≡ gives (x .handle)
     go true e d i h = rw (same-eqb (x .segment))
     go false true d i h = clash h
@@ -346,7 +346,7 @@ unfolding isBound handleIn
 bound-none s [] k = refl
 bound-none s (y ∷ b) k = go (eqb (y .segment) s) (bound-none s b) k
   where
-    go : (e : Bool) → (isBound s b ≡ false → handleIn s b ≡ refuses 16 0) → cond e true (isBound s b) ≡ false → cond e (gives (y .handle)) (handleIn s b) ≡ refuses 16 0
+    go : (e : Bool) → (isBound s b ≡ false → handleIn s b ≡ refuses 16 0) → e || isBound s b ≡ false → cond e (gives (y .handle)) (handleIn s b) ≡ refuses 16 0
     go true i k = clash k
     go false i k = i k
 
@@ -638,7 +638,7 @@ remove-level-frame m t u p w e = go (leb (length p) 1) (levelAt 0 (t .levels) p)
         lost r n =
             let z = under-rest p r n in
             ap (levelAt 0 (alter without (t .levels) p)) (z .1)
-            ∙ gone (m .components) (length (t .objects)) (t .levels) p (z .0) 0 1 0 l (w .forest) q ∙ ap (refuses 15) (plain (length p - 1))
+            ∙ gone (m .components) (isLive t) (t .levels) p (z .0) 0 1 0 l (w .forest) q ∙ ap (refuses 15) (plain (length p - 1))
 
         deep : (r : List ℕ) → under p (scopeOf r) ≡ true → 1 < length r
         deep r n = let z = under-rest p (scopeOf r) n in omega (arith, ap length (z .1), length-append p (z .0), length-take (length r - 1) r)
@@ -656,7 +656,7 @@ remove-level-frame m t u p w e = go (leb (length p) 1) (levelAt 0 (t .levels) p)
     go false (refuses i j) k q e = no-gift e
     go false (gives l) k q e = subst (λ (z : Tree). LevelRemoved t z p) (gives-same e) (removed l (leb-false (length p) 1 k) q)
 
-only-false : (b : Bool) → cond b true false ≡ false → b ≡ false
+only-false : (b : Bool) → b && true ≡ false → b ≡ false
 only-false true h = h
 only-false false h = refl
 

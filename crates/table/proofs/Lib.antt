@@ -1,6 +1,7 @@
-pub mod Words
+pub mod Facts
+pub mod Numbers
 pub mod Shape
-pub mod Segments
+pub mod Words
 pub mod Decode
 pub mod Scan
 pub mod Sound

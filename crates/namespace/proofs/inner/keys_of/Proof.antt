@@ -43,7 +43,7 @@ loop-again c =
       simp length-set (l .inv .3),
       λ s. (
         omega arith,
-        keys-turn (a .t1) len s (l .keys) (l .i) _ (omega arith) (omega arith) (omega arith) (l .inv .4 s .1) (c .segment-number .ensures),
+        keys-turn (a .t1) len s (l .keys) (l .i) _ (omega arith) (omega arith) (omega arith) (l .inv .4 s .1) (c .number .ensures),
       ),
     )
 

@@ -22,8 +22,7 @@ bare-key-requires c κs = c .before .before .pre .1
 
 slice-aggregate-nearest-level : tie.Need-slice-aggregate-nearest-level
 slice-aggregate-nearest-level c =
-    let ws = c .before .before .before .before .args .table .now in
-    sym (length-ls limits (omega arith) ws (c .before .before .before .before .pre .0))
+    sym (length-ls limits (omega arith) (c .before .before .before .before .args .table .now) (c .before .before .before .before .pre .0))
 
 array-share-prefix-keys : tie.Need-array-share-prefix-keys
 array-share-prefix-keys c =
@@ -71,7 +70,6 @@ sub-t16 c =
 
 add-t17 : tie.Need-add-t17
 add-t17 c =
-    let ws = c .before .before .before .before .before .before .before .before .args .table .now in
     let n = settled-count (c .before .before .before .before .before .before .before .before .args .scope) (c .before .before .before .before .before .before .before .before .pre .2) in omega arith
 
 returns-2 : tie.Need-returns-2

@@ -19,16 +19,14 @@ returns : tie.Need-returns
 returns c =
     let c4 = c .before .before .before .before in
     let c6 = c4 .before .before in
-    let ws = c6 .args .table .now in
-    c .no-level .ensures ∙ ap (told componentLimit) (level-scope limits ws (c6 .args .level-name) (c6 .args .starting-scope) (c6 .pre .0) (c6 .pre .1 .path) (c6 .pre .1 .alone) (c .before .before .said .given .0 .0)
+    c .no-level .ensures ∙ ap (told componentLimit) (level-scope limits (c6 .args .table .now) (c6 .args .level-name) (c6 .args .starting-scope) (c6 .pre .0) (c6 .pre .1 .path) (c6 .pre .1 .alone) (c .before .before .said .given .0 .0)
     (found-refused (asked componentLimit (c6 .args .starting-scope)) (asked-keeps componentLimit (c6 .args .starting-scope)) (c4 .settled .result) (c4 .settled .ensures) (c .before .before .said .given .0 .0) (c .before .before .said .given .1)))
 
 returns-2 : tie.Need-returns-2
 returns-2 c =
     let c4 = c .before .before .before .before in
     let c6 = c4 .before .before in
-    let ws = c6 .args .table .now in
-    c .level-up .ensures ∙ ap (told componentLimit) (level-bare limits ws (c6 .args .level-name) (c6 .args .starting-scope) (c6 .pre .0) (c6 .pre .1 .path) (c6 .pre .1 .alone) (pathOf (c4 .settled .result .name))
+    c .level-up .ensures ∙ ap (told componentLimit) (level-bare limits (c6 .args .table .now) (c6 .args .level-name) (c6 .args .starting-scope) (c6 .pre .0) (c6 .pre .1 .path) (c6 .pre .1 .alone) (pathOf (c4 .settled .result .name))
     ((found-done (asked componentLimit (c6 .args .starting-scope)) (asked-keeps componentLimit (c6 .args .starting-scope)) (c4 .settled .result) (c4 .settled .ensures) (c .before .before .enum-told .given .1)) .1))
 
 pub search-level-up-spec : {M : Type 1} → statement M

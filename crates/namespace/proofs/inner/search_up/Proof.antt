@@ -24,13 +24,11 @@ bare-key-requires c κs = c .before .before .pre .1
 
 slice-aggregate-nearest-value : tie.Need-slice-aggregate-nearest-value
 slice-aggregate-nearest-value c =
-    let ws = c .before .before .before .before .args .table .now in
-    sym (length-ls limits (omega arith) ws (c .before .before .before .before .pre .0))
+    sym (length-ls limits (omega arith) (c .before .before .before .before .args .table .now) (c .before .before .before .before .pre .0))
 
 part-nearest-value-end : tie.Need-part-nearest-value-end
 part-nearest-value-end c =
-    let ws = c .before .before .before .before .args .table .now in
-    omega (arith, long limits (omega arith) ws (c .before .before .before .before .pre .0))
+    omega (arith, long limits (omega arith) (c .before .before .before .before .args .table .now) (c .before .before .before .before .pre .0))
 
 array-share-prefix-keys : tie.Need-array-share-prefix-keys
 array-share-prefix-keys c =
@@ -97,7 +95,6 @@ sub-t13 c =
 
 add-t23 : tie.Need-add-t23
 add-t23 c =
-    let ws = c .before .before .before .before .before .before .before .before .before .before .args .table .now in
     let n = settled-count (c .before .before .before .before .before .before .before .before .before .before .args .scope) (c .before .before .before .before .before .before .before .before .before .before .pre .2) in omega arith
 
 returns-2 : tie.Need-returns-2
