@@ -273,7 +273,11 @@ def digest(words):
 
 
 def segment(text):
-    return int.from_bytes(text.ljust(4, "_").encode(), "big")
+    """four characters in base 37, numbered in byte order"""
+    n = 0
+    for c in text.ljust(4, "_"):
+        n = n * 37 + "0123456789ABCDEFGHIJKLMNOPQRSTUVWXYZ_".index(c)
+    return n
 
 
 def table_words(levels, bindings, values):
@@ -439,7 +443,7 @@ def damaged():
     case("value \\A.X 9", "ok handle 0")
     good = table_words([(1, 0, 0, 0), (2, 1, 1, segment("A"))], [(segment("X"), 0)], [9])
     case("digest", "ok %d" % digest(good))
-    for index, word in [(0, 0), (0, ROOT + 1), (0, ROOT | 1 << 42), (1, good[1] + (1 << 45)), (1, good[1] | 6 << 42), (1, good[1] + (1 << 32)), (1, good[1] - (1 << 32)), (1, good[1] - 0x5F), (2, 1),
+    for index, word in [(0, 0), (0, ROOT + 1), (0, ROOT | 1 << 42), (1, good[1] + (1 << 45)), (1, good[1] | 6 << 42), (1, good[1] + (1 << 32)), (1, good[1] - (1 << 32)), (1, good[1] - segment("A") + 10 * 37**3 - 1), (2, 1),
                         (127, 1), (128, 0), (128, good[128] + 1), (128, good[128] | 0x80 << 56), (129, good[128]), (639, 1), (640, 0), (640, 513), (642, 1), (1152, 1)]:
         bad = list(good)
         bad[index] = word

@@ -12,13 +12,14 @@ use Rattle.name_object.specs.Memory.{Named, zeros, nameOf, componentOf, compone
 use Rattle.path.specs.Normal.{step, walk, upright, limited, normal}
 use Rattle.path.specs.Text.{padded, reading, afterRoot, textPath, fromText}
 use Rattle.table.specs.Limits.{limits}
-use Rattle.table.specs.Tree.{Binding, Forest, none, level, Tree, keys, bound, levelCount}
+use Rattle.table.specs.Tree.{charNumber, number, Binding, Forest, none, level, Tree, keys, bound, levelCount}
 use Rattle.table.specs.Layout.{encode}
 use Rattle.table.specs.Valid.{segmentOk, rising, levelOk, forestOk, valid}
 use Rattle.table.specs.Memory.{means, Edited, left, freshTree, size}
 use Rattle.table.specs.Edits.{levelAt, alter, hasLevel, insertLevel, insertBinding, withChild, withBinding, addLevel, isBound, handleIn, lookUp, bind, addValue}
 use Rattle.table.specs.Search.{Hit, outward, valueIn, searchUp}
-use Rattle.table.proofs.Laws.{memory-means-one-tree, means-is-written}
+use Rattle.table.proofs.Memory.{one-tree}
+use Rattle.table.proofs.Laws.{means-is-written}
 use Rattle.namespace.specs.declared.LevelType.the-variants.{Scope}
 use Rattle.namespace.specs.Calls.{newCall, settled, settledKeys, addLevelCall, addValueCall}
 use Rattle.namespace.specs.Search.{searchCall}
@@ -40,13 +41,13 @@ asked t ask v = ap (λ (a : Answer Tree). andThen a ask) (written t v)
 
 -- the trees on the way
 abbrev x : ℕ → List Binding
-x h = record { segment = 0x585F5F5F; handle = h } ∷ []
+x h = record { segment = number 0x58 0x5F 0x5F 0x5F; handle = h } ∷ []
 
 abbrev tree : List Binding → List Binding → Forest → List ℕ → Tree
-tree atRoot atA belowA objects = record { levels = level 0 0 atRoot (level 0x415F5F5F 0 atA belowA none) none; objects = objects }
+tree atRoot atA belowA objects = record { levels = level 0 0 atRoot (level (number 0x41 0x5F 0x5F 0x5F) 0 atA belowA none) none; objects = objects }
 
 abbrev b : Forest
-b = level 0x425F5F5F 0 [] none none
+b = level (number 0x42 0x5F 0x5F 0x5F) 0 [] none none
 
 -- what the search gives: `\A___.X___`, handle 1, 3 asked
 abbrev pub hit : Named Hit
@@ -66,7 +67,7 @@ record Steps : Type 0 where
 
 steps : Steps
 unfolding after newCall addLevelCall addValueCall searchCall settledKeys settled leadOk digitOk charOk segOk spell zeros nameOf componentOf components pathOf
-    allZero bare kindOk bytesOk pathOk pathIn step walk upright limited normal padded reading afterRoot textPath fromText keys bound levelCount segmentOk
+    allZero bare kindOk bytesOk pathOk pathIn step walk upright limited normal padded reading afterRoot textPath fromText charNumber keys bound levelCount segmentOk
     rising levelOk forestOk valid levelAt alter hasLevel insertLevel insertBinding withChild withBinding addLevel isBound handleIn lookUp bind addValue
     outward valueIn searchUp
 steps =
@@ -85,7 +86,7 @@ steps =
 pub a-is-written : after (λ ws. addLevelCall limits ws (typed (0x5C ∷ 0x41 ∷ [])) Scope) (encode limits freshTree) ≡ encode limits freshTree → ⊥
 a-is-written e =
     let same : freshTree ≡ tree [] [] none [] =
-    memory-means-one-tree limits (encode limits freshTree) freshTree (tree [] [] none []) (omega arith) (steps .fresh-valid) (steps .a-valid) refl
+    one-tree limits (encode limits freshTree) freshTree (tree [] [] none []) (omega arith) (steps .fresh-valid) (steps .a-valid) refl
     (sym e ∙ steps .a-added)
     in
     let levels : _≡_ {A = Forest} (freshTree .levels) (tree [] [] none [] .levels) = ap (λ (t : Tree). t .levels) same in

@@ -3,7 +3,7 @@ use mathlib.Core.Path.{_≡_, refl, ap, sym, _∙_}
 use mathlib.Core.Bool.{Bool, true, false}
 use mathlib.Core.List.{List}
 use Prim.Native.Nat.{ℕ, _<_}
-use lib.ListN.{length, set, replicate}
+use lib.ListN.{length, take, set, replicate}
 use borrow.Author.Tests.{eq-eqb, ne-eqb}
 use native.Mathlib.Omega.{arith}
 use Rattle.pkg_length.specs.Refusal.{Answer, gives, refuses, refused, andThen}
@@ -12,18 +12,27 @@ use Rattle.table.specs.Limits.{Limits}
 use Rattle.table.specs.Tree.{Tree}
 use Rattle.table.specs.Memory.{wellFormed, decode, means, size, Edited, left}
 use Rattle.table.proofs.Objects.{means-formed, means-unformed, fresh-words}
+use Rattle.path.specs.declared.PathSaid.{PathSaid}
 use Rattle.namespace.specs.Calls.{newCall}
+use Rattle.namespace.specs.Inside.{Ready}
+use Rattle.namespace.specs.declared.inner.PathKeys.{PathKeys}
+use Rattle.namespace.proofs.Keys.{no-gift}
 
-module _ {A B : Type 0} (m : Limits) (ws : List ℕ) (next : Tree → A → Answer B) (a : Answer A) where
-  pub call-bad : wellFormed m ws ≡ false → refuses 24 0 ≡ andThen (means m ws) (λ t. andThen a (λ p. next t p))
-  call-bad h = rw (means-unformed m ws h)
+-- a call with a path
+module _ {B : Type 0} (m : Limits) (ws : List ℕ) (a : Answer (List ℕ)) (r : PathKeys) (h : Ready m ws a r) (next : Tree → List ℕ → Answer B) where
+  pub call-given : r .said ≡ PathSaid.Done → next (decode m ws) (take (r .count) (r .keys)) ≡ andThen (means m ws) (λ t. andThen a (next t))
+  call-given d = rw (means-formed m ws (h .given d .0), h .given d .1 .is)
 
-  module _ (ok : wellFormed m ws ≡ true) where
-    pub call-given : (p : A) → a ≡ gives p → next (decode m ws) p ≡ andThen (means m ws) (λ t. andThen a (λ p. next t p))
-    call-given p e = rw (means-formed m ws ok, e)
+  pub call-refused : (e : AmlError) → r .said ≡ PathSaid.Refused e → refused e ≡ andThen (means m ws) (λ t. andThen a (next t))
+  call-refused e d = go (means m ws) a (h .stopped e d)
+    where
+      same : {i j n k : ℕ} → _≡_ {A = Answer (List ℕ)} (refuses i j) (refuses n k) → _≡_ {A = Answer B} (refuses n k) (refuses i j)
+      same {i} {j} {n} {k} f = let x : n ≡ i = cc in let y : k ≡ j = cc in λ z. refuses (x z) (y z)
 
-    pub call-refused : (e : AmlError) → a ≡ refused e → refused e ≡ andThen (means m ws) (λ t. andThen a (λ p. next t p))
-    call-refused e f = rw (means-formed m ws ok, f)
+      go : (x : Answer Tree) (b : Answer (List ℕ)) → andThen x (λ t. b) ≡ refused e → refused e ≡ andThen x (λ t. andThen b (next t))
+      go (gives t) (gives p) f = no-gift (sym f)
+      go (gives t) (refuses i j) f = same f
+      go (refuses i j) b f = same f
 
 -- a call with no path
 module _ {B : Type 0} (m : Limits) (ws : List ℕ) (next : Tree → Answer B) where

@@ -2,16 +2,16 @@
 use mathlib.Core.Path.{_≡_, refl, ap, sym, subst, _∙_}
 use mathlib.Core.Bool.{Bool, true, false, cond}
 use mathlib.Core.List.{List, [], _∷_, _++_}
-use Prim.Native.Nat.{ℕ, zero, suc, _+_, _*_, _/_, _%_, _<_, _≤_}
+use Prim.Native.Nat.{ℕ, zero, suc, _+_, _*_, _^_, _<_, _≤_}
 use native.Mathlib.Omega.{arith}
 use native.Mathlib.Numerals.{add-one}
-use lib.Dec.{leb, ltb, eqb}
+use lib.Dec.{ltb}
 use lib.ListN.{length, take, getD, set}
 use lib.Seq.{take-suc, take-suc-set, take-all}
-use borrow.Author.Tests.{eqb-true, leb-true, ltb-true, ltb-false}
+use borrow.Author.Tests.{ltb-true, ltb-false}
 use Rattle.pkg_length.specs.Refusal.{Answer, gives, refuses, refused, andThen}
 use Rattle.pkg_length.specs.declared.AmlError.{AmlError}
-use Rattle.name_object.specs.Component.{Component, root, up, seg, leadOk, digitOk, charOk, segOk, fine, spellOne, componentLimit}
+use Rattle.name_object.specs.Component.{Component, root, up, seg, segOk, fine, spellOne, componentLimit}
 use Rattle.name_object.specs.Memory.{told, nameOf, pathOk, pathOf, pathIn}
 use Rattle.name_object.specs.declared.AmlName.{AmlName}
 use Rattle.name_object.proofs.Paths.{both, path-fine, fine-path}
@@ -23,70 +23,28 @@ use Rattle.path.proofs.Walks.{length-path, path-byte}
 use Rattle.path.proofs.Answers.{said-done, said-refused}
 use Rattle.table.specs.Tree.{number, key, keys}
 use Rattle.table.specs.Valid.{segmentOk}
+use Rattle.table.proofs.Numbers.{number-ok, number-low}
 use Rattle.namespace.specs.Calls.{settled, settledKeys, resolvedKeys}
 use Rattle.table.specs.Inside.{Keyed}
-use Rattle.namespace.specs.Inside.{Settled}
+use Rattle.namespace.specs.Inside.{Settled, KeysIn, Keys, Ready}
+use Rattle.namespace.specs.declared.inner.PathKeys.{PathKeys}
 use Rattle.table.proofs.Shape.{clash}
 use Rattle.table.proofs.Near.{length-keys}
-
--- characters are bytes
-lead-low : (b : ℕ) → leadOk b ≡ true → b < 96
-unfolding leadOk
-lead-low b h = go (eqb b 0x5F) refl h
-  where
-    go : (t : Bool) → eqb b 0x5F ≡ t → cond t true (cond (leb 0x41 b) (leb b 0x5A) false) ≡ true → b < 96
-    go true e k = omega (arith, eqb-true b 0x5F e)
-    go false e k = omega (arith, leb-true b 0x5A (both (leb 0x41 b) (leb b 0x5A) k .1))
-
-char-low : (b : ℕ) → charOk b ≡ true → b < 96
-unfolding charOk digitOk
-char-low b h = go (leadOk b) refl h
-  where
-    go : (t : Bool) → leadOk b ≡ t → cond t true (cond (leb 0x30 b) (leb b 0x39) false) ≡ true → b < 96
-    go true e k = lead-low b e
-    go false e k = omega (arith, leb-true b 0x39 (both (leb 0x30 b) (leb b 0x39) k .1))
-
-pub record Low (a b c d : ℕ) : Type 0 where
-  pub first : a < 96
-  pub second : b < 96
-  pub third : c < 96
-  pub fourth : d < 96
-
-pub seg-low : (a b c d : ℕ) → segOk a b c d ≡ true → Low a b c d
-unfolding segOk
-seg-low a b c d h =
-    let x = both (leadOk a) _ h in
-    let y = both (charOk b) _ (x .1) in
-    let z = both (charOk c) (charOk d) (y .1) in
-    record { first = lead-low a (x .0); second = char-low b (y .0); third = char-low c (z .0); fourth = char-low d (z .1) }
-
--- a segment's number is a segment
-pub number-ok : (a b c d : ℕ) → segOk a b c d ≡ true → segmentOk (number a b c d) ≡ true
-unfolding segmentOk
-number-ok a b c d h =
-    let l = seg-low a b c d h in
-    let e₁ : number a b c d / 16777216 ≡ a = omega arith in
-    let e₂ : number a b c d / 65536 % 256 ≡ b = omega arith in
-    let e₃ : number a b c d / 256 % 256 ≡ c = omega arith in
-    let e₄ : number a b c d % 256 ≡ d = omega arith in
-    rw (e₁, e₂, e₃, e₄) h
-
--- different segments have different numbers
-pub one-key : (a b c d p q r s : ℕ) → segOk a b c d ≡ true → segOk p q r s ≡ true → number a b c d ≡ number p q r s → seg a b c d ≡ seg p q r s
-one-key a b c d p q r s h k e =
-    let l = seg-low a b c d h in
-    let m = seg-low p q r s k in
-    let e₁ : a ≡ p = omega arith in
-    let e₂ : b ≡ q = omega arith in
-    let e₃ : c ≡ r = omega arith in
-    let e₄ : d ≡ s = omega arith in
-    λ i. seg (e₁ i) (e₂ i) (e₃ i) (e₄ i)
+use Rattle.table.proofs.Objects.{means-formed, means-unformed}
+use Rattle.table.specs.Limits.{limits}
+use Rattle.table.specs.Memory.{wellFormed}
 
 key-getD : (cs : List Component) (i : ℕ) → getD (keys cs) i 0 ≡ key (getD cs i up)
 unfolding keys
 key-getD [] i = refl
 key-getD (c ∷ cs) zero = refl
 key-getD (c ∷ cs) (suc i) = key-getD cs i
+
+pub no-gift : {A : Type 0} {T : Type 0} {a : A} {n p : ℕ} → refuses n p ≡ gives a → T
+no-gift e = absurd (let z : _≡_ {A = ℕ} 0 1 = cc in omega arith)
+
+pub gives-same : {A : Type 0} {a b : A} → gives a ≡ gives b → a ≡ b
+gives-same e = cc
 
 -- segments alone
 pub record SegAt (x : Component) : Type 0 where
@@ -126,7 +84,7 @@ module _ (limit : ℕ) (cs : List Component) (k : Kept limit cs) where
       let s = seg-at i z h in
       rw (key-getD cs i, s .is) (number-ok (s .a) (s .b) (s .c) (s .d) (s .ok))
 
-  key-low : (i : ℕ) → getD (keys cs) i 0 < 4294967296
+  key-low : (i : ℕ) → getD (keys cs) i 0 < 2 ^ 32
   key-low i = go i (ltb i (length cs)) refl
     where
       out : (l : List ℕ) (i : ℕ) → length l ≤ i → getD l i 0 ≡ 0
@@ -134,24 +92,23 @@ module _ (limit : ℕ) (cs : List Component) (k : Kept limit cs) where
       out (x ∷ l) zero h = absurd (omega arith)
       out (x ∷ l) (suc i) h = out l i (omega arith)
 
-      go : (i : ℕ) (t : Bool) → ltb i (length cs) ≡ t → getD (keys cs) i 0 < 4294967296
+      go : (i : ℕ) (t : Bool) → ltb i (length cs) ≡ t → getD (keys cs) i 0 < 2 ^ 32
       go zero t e = rw key-first (omega arith)
       go (suc i) true e =
           let s = seg-at (suc i) (omega arith) (ltb-true (suc i) (length cs) e) in
-          let l = seg-low (s .a) (s .b) (s .c) (s .d) (s .ok) in
-          rw (key-getD cs (suc i), s .is) (omega arith)
+          rw (key-getD cs (suc i), s .is) (omega (arith, number-low (s .a) (s .b) (s .c) (s .d)))
       go (suc i) false e = rw (out (keys cs) (suc i) (omega (arith, length-keys cs, ltb-false (suc i) (length cs) e))) (omega arith)
 
   pub kept-keyed : limit ≤ componentLimit → Keyed (keys cs)
   kept-keyed h = record { short = omega (arith, length-keys cs, k .room); low = key-low }
 
 -- memory that holds a settled path
-pub settled-kept : (name : AmlName) → Settled name → Kept componentLimit (pathOf name)
+pub settled-kept : (name : AmlName) → Settled componentLimit name → Kept componentLimit (pathOf name)
 settled-kept name s =
     let f = path-fine componentLimit name (s .path) in
     record { rooted = s .rooted; plain = s .plain; good = f .0; room = omega (arith, f .1, length-path name) }
 
-pub settled-count : (name : AmlName) → Settled name → (0 < name .count) × (name .count ≤ componentLimit)
+pub settled-count : (name : AmlName) → Settled componentLimit name → (0 < name .count) × (name .count ≤ componentLimit)
 settled-count name s = omega (arith, some-kept componentLimit (pathOf name) (settled-kept name s), length-path name, settled-kept name s .room)
 
 pub seg-number : (x : Component) (a b c d : ℕ) → SegAt x → spellOne x ≡ a ∷ b ∷ c ∷ d ∷ [] → key x ≡ number a b c d
@@ -163,9 +120,9 @@ seg-number x a b c d s e =
     let e₄ : s .d ≡ d = cc in
     ap key (s .is) ∙ (λ i. number (e₁ i) (e₂ i) (e₃ i) (e₄ i))
 
--- a turn of the loop that makes the keys
-module _ (name : AmlName) (hb : length (name .bytes) ≡ 128) (s : Settled name) where
-  pub key-bytes : (i : ℕ) → 0 < i → i < name .count
+-- the loop that makes the keys: the first i are the path's
+module _ (name : AmlName) (hb : length (name .bytes) ≡ 128) (s : Settled componentLimit name) where
+  key-bytes : (i : ℕ) → 0 < i → i < name .count
       → getD (keys (pathOf name)) i 0 ≡ number (getD (name .bytes) (4 * i) 0) (getD (name .bytes) (4 * i + 1) 0) (getD (name .bytes) (4 * i + 2) 0) (getD (name .bytes) (4 * i + 3) 0)
   key-bytes i z h =
       key-getD (pathOf name) i
@@ -178,119 +135,119 @@ module _ (name : AmlName) (hb : length (name .bytes) ≡ 128) (s : Settled name)
       rw (add-one i, take-suc-set ks i x l, e, take-suc (keys (pathOf name)) i 0 (omega (arith, length-keys (pathOf name), length-path name)))
       (ap (λ (y : ℕ). take i (keys (pathOf name)) ++ (y ∷ [])) (v ∙ sym (key-bytes i z h)))
 
-  pub keys-first : take 1 (keys (pathOf name)) ≡ 0 ∷ []
+  pub keys-first : 0 ∷ [] ≡ take 1 (keys (pathOf name))
   keys-first =
-      take-suc (keys (pathOf name)) 0 0 (omega (arith, length-keys (pathOf name), some-kept componentLimit (pathOf name) (settled-kept name s)))
-      ∙ ap (λ (y : ℕ). y ∷ []) (key-first componentLimit (pathOf name) (settled-kept name s))
+      sym (take-suc (keys (pathOf name)) 0 0 (omega (arith, length-keys (pathOf name), some-kept componentLimit (pathOf name) (settled-kept name s)))
+      ∙ ap (λ (y : ℕ). y ∷ []) (key-first componentLimit (pathOf name) (settled-kept name s)))
 
-  pub keys-whole : take (name .count) (keys (pathOf name)) ≡ keys (pathOf name)
-  keys-whole = take-all (name .count) (keys (pathOf name)) (omega (arith, length-keys (pathOf name), length-path name))
+  pub keys-whole : (ks : List ℕ) (i : ℕ) → i ≡ name .count → take i ks ≡ take i (keys (pathOf name)) → take (name .count) ks ≡ keys (pathOf name)
+  keys-whole ks i e h =
+      ap (λ (n : ℕ). take n ks) (sym e) ∙ h ∙ take-all i (keys (pathOf name)) (omega (arith, length-keys (pathOf name), length-path name))
 
--- what a settled path answers
-settled-fine : (cs ns : List Component) → fine true cs ≡ true → settled componentLimit cs ≡ gives ns → Kept componentLimit ns
-unfolding settled
-settled-fine cs ns f h = go (absolute cs) refl h
-  where
-    go : (t : Bool) → absolute cs ≡ t → cond t (normal componentLimit cs) (refuses 11 0) ≡ gives ns → Kept componentLimit ns
-    go true e k = normal-kept componentLimit cs ns f e k
-    go false e k = absurd (let z : _≡_ {A = ℕ} 0 1 = cc in omega arith)
+-- What a path argument comes to: an answer that is kept where it gives a path, as memory tells it.
 
-pub kept-settled : (cs : List Component) (name : AmlName) → Kept componentLimit cs → name ≡ nameOf componentLimit cs → Settled name × (pathOf name ≡ cs)
+kept-settled : (cs : List Component) (name : AmlName) → Kept componentLimit cs → name ≡ nameOf componentLimit cs → Settled componentLimit name × (pathOf name ≡ cs)
 kept-settled cs name k e =
     let f = fine-path componentLimit cs (k .good) (k .room) in
     let p : pathOf name ≡ cs = ap pathOf e ∙ f .1 in
     (record { path = ap (pathOk componentLimit) e ∙ f .0; rooted = ap absolute p ∙ k .rooted; plain = ap isNormal p ∙ k .plain }, p)
 
-module _ (path : AmlName) (r : PathAnswer) (h : pathTold r ≡ told componentLimit (alone (andThen (pathIn componentLimit path) (settled componentLimit)))) where
-  asked : Answer (List Component)
-  asked = andThen (pathIn componentLimit path) (settled componentLimit)
+abbrev pub Keeps : ℕ → Answer (List Component) → Type 0
+Keeps limit a = (ns : List Component) → a ≡ gives ns → Kept limit ns
 
-  keys-asked : (a : Answer (List Component)) → asked ≡ a → settledKeys componentLimit path ≡ andThen a (λ ns. gives (keys ns))
-  unfolding settledKeys asked
-  keys-asked a e = swap (pathIn componentLimit path) ∙ ap (λ (x : Answer (List Component)). andThen x (λ ns. gives (keys ns))) e
-    where
-      swap : (x : Answer (List Component)) → andThen x (λ cs. andThen (settled componentLimit cs) (λ ns. gives (keys ns))) ≡ andThen (andThen x (settled componentLimit)) (λ ns. gives (keys ns))
-      swap (gives cs) = refl
-      swap (refuses n p) = refl
-
-  given : (ns : List Component) → asked ≡ gives ns → Kept componentLimit ns
-  unfolding asked pathIn
-  given ns e = go (pathOk componentLimit path) refl e
-    where
-      go : (t : Bool) → pathOk componentLimit path ≡ t → andThen (cond t (gives (pathOf path)) (refuses 26 0)) (settled componentLimit) ≡ gives ns → Kept componentLimit ns
-      go true f k = settled-fine (pathOf path) ns (path-fine componentLimit path f .0) k
-      go false f k = absurd (let z : _≡_ {A = ℕ} 0 1 = cc in omega arith)
-
-  pub settled-done : r .said ≡ PathSaid.Done → Settled (r .name) × (settledKeys componentLimit path ≡ gives (keys (pathOf (r .name))))
-  unfolding asked
-  settled-done d =
-      let x = said-done componentLimit asked r h d in
-      let y = kept-settled (x .0) (r .name) (given (x .0) (x .1)) (x .2) in
-      (y .0, keys-asked (gives (x .0)) (x .1) ∙ ap (λ (l : List Component). gives (keys l)) (sym (y .1)))
-
-  pub settled-given : r .said ≡ PathSaid.Done → Settled (r .name) × (andThen (pathIn componentLimit path) (settled componentLimit) ≡ gives (pathOf (r .name)))
-  unfolding asked
-  settled-given d =
-      let x = said-done componentLimit asked r h d in
-      let y = kept-settled (x .0) (r .name) (given (x .0) (x .1)) (x .2) in
+module _ (a : Answer (List Component)) (kept : Keeps componentLimit a) (found : PathAnswer) (h : pathTold found ≡ told componentLimit (alone a)) where
+  pub found-done : found .said ≡ PathSaid.Done → Settled componentLimit (found .name) × (a ≡ gives (pathOf (found .name)))
+  found-done d =
+      let x = said-done componentLimit a found h d in
+      let y = kept-settled (x .0) (found .name) (kept (x .0) (x .1)) (x .2) in
       (y .0, x .1 ∙ ap (λ (l : List Component). gives l) (sym (y .1)))
 
-  pub settled-lost : (e : AmlError) → r .said ≡ PathSaid.Refused e → andThen (pathIn componentLimit path) (settled componentLimit) ≡ refused e
-  unfolding asked
-  settled-lost e d = sym (said-refused componentLimit asked r e h d)
+  pub found-refused : (e : AmlError) → found .said ≡ PathSaid.Refused e → a ≡ refused e
+  found-refused e d = sym (said-refused componentLimit a found e h d)
 
-  pub settled-refused : (e : AmlError) → r .said ≡ PathSaid.Refused e → settledKeys componentLimit path ≡ refused e
-  unfolding asked
-  settled-refused e d = keys-asked (refused e) (sym (said-refused componentLimit asked r e h d))
+  -- and its keys, which are b
+  module _ (r : PathKeys) (k : KeysIn found r) (b : Answer (List ℕ)) (is : andThen a (λ ns. gives (keys ns)) ≡ b) where
+    pub keys-are : r .said ≡ PathSaid.Done → take (r .count) (r .keys) ≡ keys (pathOf (found .name))
+    keys-are d = ap (λ (n : ℕ). take n (r .keys)) (k .count) ∙ k .keys (found-done (sym (k .said) ∙ d) .0)
 
--- what a path against a scope answers
-resolved-settled : (cs ss ns : List Component) (r : PathAnswer) → fine true cs ≡ true → fine true ss ≡ true → resolved componentLimit cs ss ≡ gives ns → r .name ≡ nameOf componentLimit ns
-    → Settled (r .name) × (pathOf (r .name) ≡ ns)
-resolved-settled cs ss ns r f g h e = kept-settled ns (r .name) (resolved-kept componentLimit cs ss ns f g h) e
+    pub path-keys : Keys componentLimit b r
+    path-keys =
+        record {
+          given = λ d.
+              let x = found-done (sym (k .said) ∙ d) in
+              record {
+                short = omega (arith, k .count, settled-count (found .name) (x .0));
+                is = sym is ∙ ap (λ (y : Answer (List Component)). andThen y (λ ns. gives (keys ns))) (x .1) ∙ ap gives (sym (keys-are d));
+                keyed = subst Keyed (sym (keys-are d)) (kept-keyed componentLimit (pathOf (found .name)) (settled-kept (found .name) (x .0)) (omega arith));
+              };
+          stopped = λ e d. sym is ∙ ap (λ (y : Answer (List Component)). andThen y (λ ns. gives (keys ns))) (found-refused e (sym (k .said) ∙ d));
+        }
 
-module _ (path scope : AmlName) (hp : pathOk componentLimit path ≡ true) (hs : pathOk componentLimit scope ≡ true) (r : PathAnswer)
-    (h : pathTold r ≡ told componentLimit (alone (resolved componentLimit (pathOf path) (pathOf scope)))) where
-  pub against-done : r .said ≡ PathSaid.Done → Settled (r .name) × (resolved componentLimit (pathOf path) (pathOf scope) ≡ gives (pathOf (r .name)))
-  against-done d =
-      let x = said-done componentLimit (resolved componentLimit (pathOf path) (pathOf scope)) r h d in
-      let y = resolved-settled (pathOf path) (pathOf scope) (x .0) r (path-fine componentLimit path hp .0) (path-fine componentLimit scope hs .0) (x .1) (x .2) in
-      (y .0, x .1 ∙ ap (λ (l : List Component). gives l) (sym (y .1)))
+    pub ready-keys : (ws : List ℕ) → wellFormed limits ws ≡ true → Ready limits ws b r
+    ready-keys ws ok = record { given = λ d. (ok, path-keys .given d); stopped = λ e d. rw (means-formed limits ws ok) (path-keys .stopped e d) }
 
-  pub against-refused : (e : AmlError) → r .said ≡ PathSaid.Refused e → resolved componentLimit (pathOf path) (pathOf scope) ≡ refused e
-  against-refused e d = sym (said-refused componentLimit (resolved componentLimit (pathOf path) (pathOf scope)) r e h d)
+pub ready-none : (ws : List ℕ) (b : Answer (List ℕ)) (r : PathKeys) → wellFormed limits ws ≡ false → r .said ≡ PathSaid.Refused AmlError.BadTable → Ready limits ws b r
+ready-none ws b r bad h =
+    record {
+      given = λ d. absurd (let z : _≡_ {A = ℕ} 0 1 = cc in omega arith);
+      stopped = λ e d. rw (means-unformed limits ws bad) (let x : AmlError.BadTable ≡ e = cc in ap (λ (y : AmlError). refused {A = List ℕ} y) x);
+    }
 
-module _ (path scope : AmlName) (r : PathAnswer)
-    (h : pathTold r ≡ told componentLimit (alone (andThen (pathIn componentLimit path) (λ cs. andThen (pathIn componentLimit scope) (λ ss. resolved componentLimit cs ss))))) where
-  joined : Answer (List Component)
-  joined = andThen (pathIn componentLimit path) (λ cs. andThen (pathIn componentLimit scope) (λ ss. resolved componentLimit cs ss))
+-- a path argument, and one against a scope, without their keys
+abbrev pub asked : ℕ → AmlName → Answer (List Component)
+asked limit path = andThen (pathIn limit path) (settled limit)
 
-  keys-joined : (a : Answer (List Component)) → joined ≡ a → resolvedKeys componentLimit path scope ≡ andThen a (λ ns. gives (keys ns))
-  unfolding resolvedKeys joined
-  keys-joined a e = swap (pathIn componentLimit path) (pathIn componentLimit scope) ∙ ap (λ (x : Answer (List Component)). andThen x (λ ns. gives (keys ns))) e
-    where
-      swap : (x y : Answer (List Component)) → andThen x (λ cs. andThen y (λ ss. andThen (resolved componentLimit cs ss) (λ ns. gives (keys ns))))
-          ≡ andThen (andThen x (λ cs. andThen y (λ ss. resolved componentLimit cs ss))) (λ ns. gives (keys ns))
-      swap (gives cs) (gives ss) = refl
-      swap (gives cs) (refuses n p) = refl
-      swap (refuses n p) y = refl
+abbrev pub joined : ℕ → AmlName → AmlName → Answer (List Component)
+joined limit path scope = andThen (pathIn limit path) (λ cs. andThen (pathIn limit scope) (λ ss. resolved limit cs ss))
 
-  joined-given : (ns : List Component) → joined ≡ gives ns → Kept componentLimit ns
-  unfolding joined pathIn
-  joined-given ns e = go (pathOk componentLimit path) (pathOk componentLimit scope) refl refl e
-    where
-      go : (t u : Bool) → pathOk componentLimit path ≡ t → pathOk componentLimit scope ≡ u
-          → andThen (cond t (gives (pathOf path)) (refuses 26 0)) (λ cs. andThen (cond u (gives (pathOf scope)) (refuses 26 0)) (λ ss. resolved componentLimit cs ss)) ≡ gives ns → Kept componentLimit ns
-      go true true f g k = resolved-kept componentLimit (pathOf path) (pathOf scope) ns (path-fine componentLimit path f .0) (path-fine componentLimit scope g .0) k
-      go true false f g k = absurd (let z : _≡_ {A = ℕ} 0 1 = cc in omega arith)
-      go false u f g k = absurd (let z : _≡_ {A = ℕ} 0 1 = cc in omega arith)
+pub then-then : {A B C : Type 0} (a : Answer A) (f : A → Answer B) (g : B → Answer C) → andThen (andThen a f) g ≡ andThen a (λ x. andThen (f x) g)
+then-then (gives x) f g = refl
+then-then (refuses n p) f g = refl
 
-  pub joined-done : r .said ≡ PathSaid.Done → Settled (r .name) × (resolvedKeys componentLimit path scope ≡ gives (keys (pathOf (r .name))))
-  unfolding joined
-  joined-done d =
-      let x = said-done componentLimit joined r h d in
-      let y = kept-settled (x .0) (r .name) (joined-given (x .0) (x .1)) (x .2) in
-      (y .0, keys-joined (gives (x .0)) (x .1) ∙ ap (λ (l : List Component). gives (keys l)) (sym (y .1)))
+pub asked-keys : (limit : ℕ) (path : AmlName) → andThen (asked limit path) (λ ns. gives (keys ns)) ≡ settledKeys limit path
+unfolding settledKeys
+asked-keys limit path = then-then (pathIn limit path) (settled limit) (λ ns. gives (keys ns))
 
-  pub joined-refused : (e : AmlError) → r .said ≡ PathSaid.Refused e → resolvedKeys componentLimit path scope ≡ refused e
-  unfolding joined
-  joined-refused e d = keys-joined (refused e) (sym (said-refused componentLimit joined r e h d))
+pub joined-keys : (limit : ℕ) (path scope : AmlName) → andThen (joined limit path scope) (λ ns. gives (keys ns)) ≡ resolvedKeys limit path scope
+unfolding resolvedKeys
+joined-keys limit path scope =
+    then-then (pathIn limit path) (λ cs. andThen (pathIn limit scope) (λ ss. resolved limit cs ss)) (λ ns. gives (keys ns)) ∙ go (pathIn limit path)
+  where
+    go : (x : Answer (List Component)) → andThen x (λ cs. andThen (andThen (pathIn limit scope) (λ ss. resolved limit cs ss)) (λ ns. gives (keys ns)))
+        ≡ andThen x (λ cs. andThen (pathIn limit scope) (λ ss. andThen (resolved limit cs ss) (λ ns. gives (keys ns))))
+    go (gives cs) = then-then (pathIn limit scope) (λ ss. resolved limit cs ss) (λ ns. gives (keys ns))
+    go (refuses n p) = refl
+
+pub read-path : (limit : ℕ) (name : AmlName) (cs : List Component) → pathIn limit name ≡ gives cs → fine true cs ≡ true
+unfolding pathIn
+read-path limit name cs e = go (pathOk limit name) refl e
+  where
+    go : (x : Bool) → pathOk limit name ≡ x → cond x (gives (pathOf name)) (refuses 26 0) ≡ gives cs → fine true cs ≡ true
+    go true h e = subst (λ (l : List Component). fine true l ≡ true) (gives-same e) (path-fine limit name h .0)
+    go false h e = no-gift e
+
+pub settled-keeps : (limit : ℕ) (cs : List Component) → fine true cs ≡ true → Keeps limit (settled limit cs)
+unfolding settled
+settled-keeps limit cs f ns e = go (absolute cs) refl e
+  where
+    go : (x : Bool) → absolute cs ≡ x → cond x (normal limit cs) (refuses 11 0) ≡ gives ns → Kept limit ns
+    go true a e = normal-kept limit cs ns f a e
+    go false a e = no-gift e
+
+pub asked-keeps : (limit : ℕ) (path : AmlName) → Keeps limit (asked limit path)
+asked-keeps limit path ns e = go (pathIn limit path) refl e
+  where
+    go : (a : Answer (List Component)) → pathIn limit path ≡ a → andThen a (settled limit) ≡ gives ns → Kept limit ns
+    go (gives cs) q e = settled-keeps limit cs (read-path limit path cs q) ns e
+    go (refuses n k) q e = no-gift e
+
+pub joined-keeps : (limit : ℕ) (path scope : AmlName) → Keeps limit (joined limit path scope)
+joined-keeps limit path scope ns e = go (pathIn limit path) (pathIn limit scope) refl refl e
+  where
+    go : (a b : Answer (List Component)) → pathIn limit path ≡ a → pathIn limit scope ≡ b → andThen a (λ cs. andThen b (λ ss. resolved limit cs ss)) ≡ gives ns → Kept limit ns
+    go (gives cs) (gives ss) q r e = resolved-kept limit cs ss ns (read-path limit path cs q) (read-path limit scope ss r) e
+    go (gives cs) (refuses n k) q r e = no-gift e
+    go (refuses n k) b q r e = no-gift e
+
+pub against-keeps : (limit : ℕ) (path scope : AmlName) → pathOk limit path ≡ true → pathOk limit scope ≡ true → Keeps limit (resolved limit (pathOf path) (pathOf scope))
+against-keeps limit path scope hp hs ns e = resolved-kept limit (pathOf path) (pathOf scope) ns (path-fine limit path hp .0) (path-fine limit scope hs .0) e

@@ -1,5 +1,5 @@
-pub mod Calls
 pub mod Keys
+pub mod Calls
 pub mod ValueCalls
 pub mod Bare
 pub mod SearchCalls

@@ -2,7 +2,7 @@
 use mathlib.Core.Path.{_≡_, refl, ap, ap₂, sym, _∙_}
 use mathlib.Core.Bool.{true, false, cond}
 use mathlib.Core.List.{List, [], _∷_, _++_}
-use Prim.Native.Nat.{ℕ, _+_, _-_, _<_, _≤_}
+use Prim.Native.Nat.{ℕ, _+_, _-_, _<_, _≤_, _^_}
 use native.Mathlib.Omega.{arith}
 use lib.ListN.{length, take, drop}
 use Rattle.pkg_length.specs.Refusal.{Answer, gives, refuses, refused, andThen}
@@ -27,11 +27,12 @@ use Rattle.namespace.proofs.Keys.{settled-kept}
 use Rattle.table.proofs.Near.{Deep, nearF, foundOf, value-search, value-deep}
 use Rattle.table.proofs.NearWords.{nearestOf, near-held}
 use Rattle.table.proofs.NearLevels.{askChild, depthOf, level-held, level-search, level-deep}
+use Rattle.table.proofs.Whole.{small-handles}
 
 pub same-told : {A : Type 0} {m n : AmlName} {a b : Answer A} → m ≡ n → a ≡ b → _≡_ {A = Told A} (record { memory = m; said = a }) (record { memory = n; said = b })
 same-told e f = λ i. record { memory = e i; said = f i }
 
-module _ (ws : List ℕ) (ok : wellFormed limits ws ≡ true) (scope : AmlName) (s : Settled scope) (c : Component) where
+module _ (ws : List ℕ) (ok : wellFormed limits ws ≡ true) (scope : AmlName) (s : Settled componentLimit scope) (c : Component) where
   abbrev t : Tree
   t = decode limits ws
 
@@ -75,10 +76,10 @@ module _ (ws : List ℕ) (ok : wellFormed limits ws ≡ true) (scope : AmlName) 
       handle-is : q .handle ≡ given .0 .value
       handle-is = ap (λ (x : Nearest). x .handle) (found-is ∙ ap nearestOf (given .1))
 
-      pub up-range : (q .depth ≤ scope .count) × (q .depth < componentLimit) × (q .handle < 4294967296)
+      pub up-range : (q .depth ≤ scope .count) × (q .depth < componentLimit) × (q .handle < 2 ^ 32)
       up-range =
           let r = value-deep limits t (whole limits (omega arith) ws ok) c ns room (given .0) (given .1) in
-          omega (arith, r .1, r .2, r .3, depth-is, handle-is, length-path scope, whole limits (omega arith) ws ok .objects)
+          omega (arith, r .1, r .2, small-handles limits t (whole limits (omega arith) ws ok) (omega arith) (given .0 .value) (r .3), depth-is, handle-is, length-path scope)
 
       pub up-found : (name : AmlName) → name ≡ nameOf componentLimit (take (q .depth) ns ++ (c ∷ []))
           → record { memory = name; said = gives (record { handle = q .handle; asked = scope .count - q .depth + 1 }) } ≡ told componentLimit (searchUp limits t c ns)

@@ -2,7 +2,7 @@
 use mathlib.Core.Path.{_≡_, refl, ap, ap₂, sym, _∙_}
 use mathlib.Core.Bool.{Bool, true, false, cond}
 use mathlib.Core.List.{List, [], _∷_, _++_}
-use Prim.Native.Nat.{ℕ, _+_, _*_, _-_, _<_, _≤_}
+use Prim.Native.Nat.{ℕ, _+_, _*_, _-_, _<_, _≤_, _^_}
 use native.Mathlib.Omega.{arith}
 use lib.ListN.{length, take, drop, getD, set}
 use lib.Seq.{getD-take, getD-drop}
@@ -20,6 +20,7 @@ use Rattle.table.specs.Layout.{encode}
 use Rattle.table.specs.Memory.{wellFormed, decode, Edited, left}
 use Rattle.table.specs.Edits.{alter, scopeOf, lastOf, withBinding, withLevels, withObjects, nextHandle, lookUp, bind, addValue, addAlias}
 use Rattle.namespace.specs.Calls.{aliasAt, addAliasCall}
+use Rattle.namespace.specs.Inside.{againstKeys}
 use Rattle.table.specs.Inside.{spotIn, bindWords}
 use Rattle.table.specs.declared.inner.Spot.{Spot}
 use Rattle.table.proofs.Shape.{clash}
@@ -27,6 +28,7 @@ use Rattle.table.proofs.Objects.{whole, made-is, means-formed, means-unformed}
 use Rattle.table.proofs.Held.{bindings-room, bindings-full}
 use Rattle.table.proofs.BindCalls.{spot-refused, spot-bound, spot-live, spot-open, Open}
 use Rattle.table.proofs.BindWords.{bind-full, bind-room, bound-words, value-words}
+use Rattle.table.proofs.Whole.{small-handles}
 
 module _ {A : Type 0} (m : Limits) (ws : List ℕ) where
   given : (us : List ℕ) (t : Tree) (x : A) (a : Answer (Edited A)) → a ≡ gives (record { tree = t; value = x }) → us ≡ encode m t → record { words = us; said = gives x } ≡ left m ws a
@@ -63,7 +65,7 @@ module _ (m : Limits) (t : Tree) (p q : List ℕ) where
   unfolding addAlias
   alias-made h u e f = rw (e, f)
 
-module _ (m : Limits) (hm : m .objects ≤ 4294967296) (ws : List ℕ) (ok : wellFormed m ws ≡ true) where
+module _ (m : Limits) (hm : m .objects ≤ 2 ^ 32) (ws : List ℕ) (ok : wellFormed m ws ≡ true) where
   module _ (z : 0 < m .bindings) where
     last-word : getD (take (m .bindings) (drop (m .levels) ws)) (m .bindings - 1) 0 ≡ getD ws (m .levels + (m .bindings - 1)) 0
     last-word = getD-take (m .bindings) (drop (m .levels) ws) (m .bindings - 1) 0 (omega arith) ∙ getD-drop (m .levels) ws (m .bindings - 1) 0
@@ -76,8 +78,8 @@ module _ (m : Limits) (hm : m .objects ≤ 4294967296) (ws : List ℕ) (ok : wel
 
   module _ (p : List ℕ) (r : Spot) (e : r ≡ spotIn (take (m .levels) ws) (take (m .bindings) (drop (m .levels) ws)) p) where
     -- lookup
-    pub looked-bound : (h : ℕ) → r ≡ Spot.Bound h → (gives h ≡ lookUp (decode m ws) p) × (h < 4294967296)
-    looked-bound h d = (sym (spot-bound m hm ws ok p r e h d .0), omega (arith, spot-live m hm ws ok p r e h d, whole m hm ws ok .objects))
+    pub looked-bound : (h : ℕ) → r ≡ Spot.Bound h → (gives h ≡ lookUp (decode m ws) p) × (h < 2 ^ 32)
+    looked-bound h d = (sym (spot-bound m hm ws ok p r e h d .0), small-handles m (decode m ws) (whole m hm ws ok) hm h (spot-live m hm ws ok p r e h d))
 
     pub looked-free : (a i : ℕ) → r ≡ Spot.Free a i → refuses 16 0 ≡ lookUp (decode m ws) p
     looked-free a i d = sym (spot-open m hm ws ok p r e a i d .looked)
@@ -109,14 +111,14 @@ module _ (m : Limits) (hm : m .objects ≤ 4294967296) (ws : List ℕ) (ok : wel
           pub valued-none : m .objects ≤ getD ws (m .levels + m .bindings) 0 → record { words = ws; said = refuses 20 0 } ≡ left m ws (addValue m (decode m ws) p v)
           valued-none l = kept m ws 20 0 (addValue m (decode m ws) p v) (add-full m (decode m ws) p v _ tied (rw (made-is m hm ws ok) at l))
 
-          pub valued : getD ws (m .levels + m .bindings) 0 < m .objects → (us : List ℕ) → us ≡ bindWords m ws a i (lastOf p * 4294967296 + getD ws (m .levels + m .bindings) 0)
+          pub valued : getD ws (m .levels + m .bindings) 0 < m .objects → (us : List ℕ) → us ≡ bindWords m ws a i (lastOf p * 2 ^ 32 + getD ws (m .levels + m .bindings) 0)
               → record {
                 words = set (set us (m .levels + m .bindings + 1 + getD ws (m .levels + m .bindings) 0) v) (m .levels + m .bindings) (getD ws (m .levels + m .bindings) 0 + 1);
                 said = gives (getD ws (m .levels + m .bindings) 0);
               } ≡ left m ws (addValue m (decode m ws) p v)
           valued l us u =
               ap₂ (λ (x : List ℕ) (n : ℕ). record { words = set (set x (m .levels + m .bindings + 1 + n) v) (m .levels + m .bindings) (n + 1); said = gives n })
-              (u ∙ ap (λ (n : ℕ). bindWords m ws a i (lastOf p * 4294967296 + n)) (made-is m hm ws ok)) (made-is m hm ws ok)
+              (u ∙ ap (λ (n : ℕ). bindWords m ws a i (lastOf p * 2 ^ 32 + n)) (made-is m hm ws ok)) (made-is m hm ws ok)
               ∙ given m ws _ _ (length (decode m ws .objects)) (addValue m (decode m ws) p v) (add-given m (decode m ws) p v _ tied live)
               (value-words m hm ws ok p r e a i open-at (room z f) (length (decode m ws .objects)) v live)
             where
@@ -142,25 +144,26 @@ module _ (m : Limits) (hm : m .objects ≤ 4294967296) (ws : List ℕ) (ok : wel
           pub aliased-full : (getD ws (m .levels + (m .bindings - 1)) 0 ≡ 0 → ⊥) → record { words = ws; said = refuses 19 0 } ≡ left m ws (addAlias m (decode m ws) p q)
           aliased-full f = kept m ws 19 0 (addAlias m (decode m ws) p q) (alias-refused m (decode m ws) p q h 19 0 (sym g) (bind-full m hm ws ok p r e a i opened (full z f) h))
 
-          pub aliased : getD ws (m .levels + (m .bindings - 1)) 0 ≡ 0 → (us : List ℕ) → us ≡ bindWords m ws a i (lastOf p * 4294967296 + h)
+          pub aliased : getD ws (m .levels + (m .bindings - 1)) 0 ≡ 0 → (us : List ℕ) → us ≡ bindWords m ws a i (lastOf p * 2 ^ 32 + h)
               → record { words = us; said = gives h } ≡ left m ws (addAlias m (decode m ws) p q)
           aliased f us u =
               given m ws us _ h (addAlias m (decode m ws) p q) (alias-made m (decode m ws) p q h _ (sym g) (bind-room m hm ws ok p r e a i opened (room z f) h))
               (u ∙ bound-words m hm ws ok p r e a i opened (room z f) h)
 
--- the whole call of an alias
+-- the whole call of an alias: its path's keys, its target's, and then the edit
 module _ (m : Limits) (t : Tree) (cs ss ts : List Component) where
-  pub alias-path : (n k : ℕ) → resolved (m .components) cs ss ≡ refuses n k → aliasAt m t cs ss ts ≡ refuses n k
+  pub alias-keys : aliasAt m t cs ss ts ≡ andThen (againstKeys (m .components) cs ss) (λ p. andThen (againstKeys (m .components) ts ss) (λ q. addAlias m t p q))
   unfolding aliasAt
-  alias-path n k e = rw e
+  alias-keys = go (resolved (m .components) cs ss) (resolved (m .components) ts ss)
+    where
+      go : (x y : Answer (List Component)) → andThen x (λ ps. andThen y (λ qs. addAlias m t (keys ps) (keys qs)))
+          ≡ andThen (andThen x (λ ns. gives (keys ns))) (λ p. andThen (andThen y (λ ns. gives (keys ns))) (λ q. addAlias m t p q))
+      go (gives ps) (gives qs) = refl
+      go (gives ps) (refuses n k) = refl
+      go (refuses n k) y = refl
 
-  pub alias-target : (ps : List Component) (n k : ℕ) → resolved (m .components) cs ss ≡ gives ps → resolved (m .components) ts ss ≡ refuses n k → aliasAt m t cs ss ts ≡ refuses n k
-  unfolding aliasAt
-  alias-target ps n k e f = rw (e, f)
-
-  pub alias-both : (ps qs : List Component) → resolved (m .components) cs ss ≡ gives ps → resolved (m .components) ts ss ≡ gives qs → aliasAt m t cs ss ts ≡ addAlias m t (keys ps) (keys qs)
-  unfolding aliasAt
-  alias-both ps qs e f = rw (e, f)
+  pub alias-both : (p q : List ℕ) → againstKeys (m .components) cs ss ≡ gives p → againstKeys (m .components) ts ss ≡ gives q → addAlias m t p q ≡ aliasAt m t cs ss ts
+  alias-both p q e f = sym (alias-keys ∙ rw (e, f))
 
 pub three-paths : (path scope target : AmlName) → cond (pathOk componentLimit path) (cond (pathOk componentLimit scope) (pathOk componentLimit target) false) false ≡ true
     → (pathOk componentLimit path ≡ true) × (pathOk componentLimit scope ≡ true) × (pathOk componentLimit target ≡ true)

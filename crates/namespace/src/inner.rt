@@ -14,9 +14,10 @@ ghost use Rattle.table.specs.Memory.{wellFormed, decode, left, done};
 ghost use Rattle.table.specs.Edits.{addLevel, removeLevel, lookUp, addValue, addAlias, valueOf, setValue};
 ghost use Rattle.table.specs.Search.{searchUp, levelUp};
 ghost use Rattle.table.specs.Inside.{Keyed};
-ghost use Rattle.namespace.specs.Calls.{settled, editLeft, valueSaid, handleSaid, handleLeft, typeNumber, aliasAt};
+ghost use Rattle.path.specs.declared.PathSaid.{PathSaid};
+ghost use Rattle.namespace.specs.Calls.{settled, settledKeys, resolvedKeys, editLeft, valueSaid, handleSaid, handleLeft, typeNumber, aliasAt};
 ghost use Rattle.namespace.specs.Search.{searchTold, searchOnce, searchCall, levelTold, levelCall, firstOf};
-ghost use Rattle.namespace.specs.Inside.{Settled, Bare};
+ghost use Rattle.namespace.specs.Inside.{Settled, Bare, KeysIn, Keys, Ready, againstKeys};
 use crate::AmlHandle;
 use crate::EditAnswer;
 use crate::HandleAnswer;
@@ -32,6 +33,15 @@ use path::PathSaid;
 use pkg_length::AmlError;
 use table::inner::Sought;
 use table::inner::Spot;
+use table::layout::COUNT_AT;
+use table::layout::LAST_BINDING;
+use table::layout::LAST_LEVEL;
+use table::layout::LEVELS;
+use table::layout::OBJECTS;
+use table::layout::RANK;
+use table::layout::SEGMENT;
+use table::layout::TYPE;
+use table::layout::VALUES_AT;
 
 // The normal form of an absolute path.
 pub fn settled(path: AmlName) -> PathAnswer
@@ -54,29 +64,87 @@ pub fn settled(path: AmlName) -> PathAnswer
     }
 }
 
-fn wide(b: u8) -> u64
-    ensures { λ r. ⌜ (r ≡ b) × (r < 256) ⌝ }
-{
-    b as u64
-}
-
-// A path's components as the records have them: the root is 0, a segment is its four bytes as one number, the first byte highest.
-pub fn keys_of(path: AmlName) -> [u64; 32]
-    requires { ⌜ Settled path ⌝ }
-    ensures { λ r. ⌜ take (path .count) r ≡ keys (pathOf path) ⌝ }
+// A path's components as the records have them: the root is 0, a segment is its number.
+fn keys_of(path: AmlName) -> [u64; 32]
+    ensures { λ r. ⌜ (Settled componentLimit path → take (path .count) r ≡ keys (pathOf path)) ⌝ }
 {
     let n = path.count;
     let mut keys = [0u64; 32];
     let mut i = 1;
-    while i < n {
+    while i < 32 {
+        if n <= i {
+            return keys;
+        }
         let at = 4 * i;
-        keys[i] = wide(path.bytes[at]) * 16777216
-            + wide(path.bytes[at + 1]) * 65536
-            + wide(path.bytes[at + 2]) * 256
-            + wide(path.bytes[at + 3]);
+        keys[i] = table::segments::number(
+            path.bytes[at],
+            path.bytes[at + 1],
+            path.bytes[at + 2],
+            path.bytes[at + 3],
+        );
         i += 1;
     }
     keys
+}
+
+// A path's keys, the first `count` of them, or what the path is refused with.
+pub struct PathKeys {
+    pub keys: [u64; 32],
+    pub count: usize,
+    pub said: PathSaid,
+}
+
+// The keys of what a path came to.
+fn keys_in(found: PathAnswer) -> PathKeys
+    ensures { λ r. ⌜ KeysIn found r ⌝ }
+{
+    let name = found.name;
+    let said = found.said;
+    PathKeys {
+        keys: keys_of(name),
+        count: name.count,
+        said,
+    }
+}
+
+// The keys of a path against a scope, both known to be paths.
+fn keys_against(path: AmlName, scope: AmlName) -> PathKeys
+    requires { ⌜ (pathOk componentLimit path ≡ true) × (pathOk componentLimit scope ≡ true) ⌝ }
+    ensures { λ r. ⌜ Keys componentLimit (againstKeys componentLimit (pathOf path) (pathOf scope)) r ⌝ }
+{
+    keys_in(path::inner::resolved(path, scope))
+}
+
+fn no_keys(e: AmlError) -> PathKeys
+    ensures { λ r. ⌜ r .said ≡ PathSaid.Refused e ⌝ }
+{
+    PathKeys {
+        keys: [0; 32],
+        count: 0,
+        said: PathSaid::Refused(e),
+    }
+}
+
+// What an edit or a lookup goes by: 24, what its path is refused with, and then the keys of its normal form.
+pub fn keyed(table: &[u64], path: AmlName) -> PathKeys
+    ensures { λ r. ⌜ Ready limits (now (table .entry)) (settledKeys componentLimit path) r ⌝ }
+{
+    if table::well_formed(table) {
+        keys_in(settled(path))
+    } else {
+        no_keys(AmlError::BadTable)
+    }
+}
+
+// The same of a path against a scope.
+pub fn keyed_in(table: &[u64], path: AmlName, scope: AmlName) -> PathKeys
+    ensures { λ r. ⌜ Ready limits (now (table .entry)) (resolvedKeys componentLimit path scope) r ⌝ }
+{
+    if table::well_formed(table) {
+        keys_in(path::resolve(path, scope))
+    } else {
+        no_keys(AmlError::BadTable)
+    }
 }
 
 // Types number as `LevelType` lists them, from 0.
@@ -102,14 +170,14 @@ pub fn add_level(table: &mut [u64], path: &[u64], typ: u64) -> EditAnswer
     if n <= 1 {
         return EditAnswer::Done;
     }
-    let found = table::inner::seek(&table[..128], path);
+    let found = table::inner::seek(&table[..LEVELS], path);
     match found {
         Sought::Here(_, _) => EditAnswer::Done,
         Sought::Missing(p) => EditAnswer::Refused(AmlError::LevelDoesNotExist(p)),
         Sought::Before(k) => {
-            if table[127] == 0 {
-                let w = n as u64 * 35184372088832 + typ * 4398046511104 + path[n - 1];
-                table::inner::make_room(&mut table[..128], k, w);
+            if table[LAST_LEVEL] == 0 {
+                let w = n as u64 * RANK + typ * TYPE + path[n - 1];
+                table::inner::make_room(&mut table[..LEVELS], k, w);
                 EditAnswer::Done
             } else {
                 EditAnswer::Refused(AmlError::LevelsFull)
@@ -127,14 +195,14 @@ pub fn remove_level(table: &mut [u64], path: &[u64]) -> EditAnswer
     if n <= 1 {
         return EditAnswer::Refused(AmlError::TriedToRemoveRootNamespace);
     }
-    let found = table::inner::seek(&table[..128], path);
+    let found = table::inner::seek(&table[..LEVELS], path);
     match found {
         Sought::Here(at, from) => {
-            let run = table::inner::subtree(&table[..128], at, from);
+            let run = table::inner::subtree(&table[..LEVELS], at, from);
             let end = run.end;
             let to = run.to;
-            table::inner::close_gap(&mut table[..128], at, end);
-            table::inner::close_gap(&mut table[128..640], from, to);
+            table::inner::close_gap(&mut table[..LEVELS], at, end);
+            table::inner::close_gap(&mut table[LEVELS..COUNT_AT], from, to);
             EditAnswer::Done
         }
         Sought::Before(_) => EditAnswer::Refused(AmlError::LevelDoesNotExist(n - 1)),
@@ -165,16 +233,16 @@ pub fn add_value(table: &mut [u64], path: &[u64], value: u64) -> HandleAnswer
         Spot::Refused(e) => HandleAnswer::Refused(e),
         Spot::Bound(_) => HandleAnswer::Refused(AmlError::NameCollision),
         Spot::Free(at, i) => {
-            if table[639] != 0 {
+            if table[LAST_BINDING] != 0 {
                 return HandleAnswer::Refused(AmlError::BindingsFull);
             }
-            let made = table[640];
-            if 512 <= made {
+            let made = table[COUNT_AT];
+            if OBJECTS as u64 <= made {
                 return HandleAnswer::Refused(AmlError::ObjectsFull);
             }
-            table::inner::bind(table, at, i, path[path.len() - 1] * 4294967296 + made);
-            table[641 + made as usize] = value;
-            table[640] = made + 1;
+            table::inner::bind(table, at, i, path[path.len() - 1] * SEGMENT + made);
+            table[VALUES_AT + made as usize] = value;
+            table[COUNT_AT] = made + 1;
             HandleAnswer::Handle(AmlHandle(made as u32))
         }
     }
@@ -194,14 +262,14 @@ pub fn add_alias(table: &mut [u64], path: &[u64], target: &[u64]) -> HandleAnswe
                 Spot::Refused(e) => HandleAnswer::Refused(e),
                 Spot::Bound(_) => HandleAnswer::Refused(AmlError::NameCollision),
                 Spot::Free(at, i) => {
-                    if table[639] != 0 {
+                    if table[LAST_BINDING] != 0 {
                         return HandleAnswer::Refused(AmlError::BindingsFull);
                     }
                     table::inner::bind(
                         table,
                         at,
                         i,
-                        path[path.len() - 1] * 4294967296 + handle.0 as u64,
+                        path[path.len() - 1] * SEGMENT + handle.0 as u64,
                     );
                     HandleAnswer::Handle(handle)
                 }
@@ -216,9 +284,9 @@ pub fn read(table: &[u64], handle: AmlHandle) -> ValueAnswer
     ensures { λ r. ⌜ valueSaid r ≡ valueOf (decode limits (now (table .entry))) (handle .0) ⌝ }
 {
     let h = handle.0 as usize;
-    let made = table[640] as usize;
+    let made = table[COUNT_AT] as usize;
     if h < made {
-        ValueAnswer::Value(table[641 + h])
+        ValueAnswer::Value(table[VALUES_AT + h])
     } else {
         ValueAnswer::Refused(AmlError::NoSuchHandle)
     }
@@ -229,9 +297,9 @@ pub fn write(table: &mut [u64], handle: AmlHandle, value: u64) -> EditAnswer
     ensures { λ r. ⌜ editLeft (now (table .exit)) r ≡ left limits (now (table .entry)) (done (setValue (decode limits (now (table .entry))) (handle .0) value)) ⌝ }
 {
     let h = handle.0 as usize;
-    let made = table[640] as usize;
+    let made = table[COUNT_AT] as usize;
     if h < made {
-        table[641 + h] = value;
+        table[VALUES_AT + h] = value;
         EditAnswer::Done
     } else {
         EditAnswer::Refused(AmlError::NoSuchHandle)
@@ -263,22 +331,20 @@ pub fn resolve_alias(
     requires { ⌜ (wellFormed limits (now table) ≡ true) × (pathOk componentLimit path ≡ true) × (pathOk componentLimit scope ≡ true) × (pathOk componentLimit target ≡ true) ⌝ }
     ensures { λ r. ⌜ handleLeft (now (table .exit)) r ≡ left limits (now (table .entry)) (aliasAt limits (decode limits (now (table .entry))) (pathOf path) (pathOf scope) (pathOf target)) ⌝ }
 {
-    let one = path::inner::resolved(path, scope);
+    let one = keys_against(path, scope);
     let said = one.said;
     match said {
         PathSaid::Refused(e) => HandleAnswer::Refused(e),
         PathSaid::Done => {
-            let two = path::inner::resolved(target, scope);
+            let two = keys_against(target, scope);
             let told = two.said;
             match told {
                 PathSaid::Refused(e) => HandleAnswer::Refused(e),
                 PathSaid::Done => {
-                    let name = one.name;
-                    let aim = two.name;
-                    let n = name.count;
-                    let k = aim.count;
-                    let names = keys_of(name);
-                    let aims = keys_of(aim);
+                    let n = one.count;
+                    let k = two.count;
+                    let names = one.keys;
+                    let aims = two.keys;
                     add_alias(table, &names[..n], &aims[..k])
                 }
             }
@@ -306,7 +372,7 @@ pub fn no_level(e: AmlError) -> LevelAnswer
 
 // A path's first n components.
 fn within(name: AmlName, n: usize) -> AmlName
-    requires { ⌜ Settled name × (n ≤ name .count) ⌝ }
+    requires { ⌜ Settled componentLimit name × (n ≤ name .count) ⌝ }
     ensures { λ r. ⌜ r ≡ nameOf componentLimit (take n (pathOf name)) ⌝ }
 {
     let mut cut = name;
@@ -330,18 +396,15 @@ fn is_bare(path: AmlName) -> bool
 
 // A bare segment, as the records have it.
 fn bare_key(path: AmlName) -> u64
-    requires { ⌜ Bare path ⌝ }
+    requires { ⌜ Bare componentLimit path ⌝ }
     ensures { λ r. ⌜ r ≡ key (firstOf (pathOf path)) ⌝ }
 {
-    wide(path.bytes[0]) * 16777216
-        + wide(path.bytes[1]) * 65536
-        + wide(path.bytes[2]) * 256
-        + wide(path.bytes[3])
+    table::segments::number(path.bytes[0], path.bytes[1], path.bytes[2], path.bytes[3])
 }
 
 // A bare segment in the scope of a path's first n components.
 fn full_name(scope: AmlName, n: usize, path: AmlName) -> AmlName
-    requires { ⌜ Settled scope × Bare path × (n ≤ scope .count) × (n < componentLimit) ⌝ }
+    requires { ⌜ Settled componentLimit scope × Bare componentLimit path × (n ≤ scope .count) × (n < componentLimit) ⌝ }
     ensures { λ r. ⌜ r ≡ nameOf componentLimit (take n (pathOf scope) ++ (firstOf (pathOf path) ∷ [])) ⌝ }
 {
     let cut = within(scope, n);
@@ -355,13 +418,18 @@ fn full_name(scope: AmlName, n: usize, path: AmlName) -> AmlName
 }
 
 fn search_up(table: &[u64], path: AmlName, scope: AmlName) -> SearchAnswer
-    requires { ⌜ (wellFormed limits (now table) ≡ true) × Bare path × Settled scope ⌝ }
+    requires { ⌜ (wellFormed limits (now table) ≡ true) × Bare componentLimit path × Settled componentLimit scope ⌝ }
     ensures { λ r. ⌜ searchTold r ≡ told componentLimit (searchUp limits (decode limits (now (table .entry))) (firstOf (pathOf path)) (pathOf scope)) ⌝ }
 {
     let n = scope.count;
     let keys = keys_of(scope);
     let seg = bare_key(path);
-    let found = table::inner::nearest_value(&table[..128], &table[128..640], &keys[..n], seg);
+    let found = table::inner::nearest_value(
+        &table[..LEVELS],
+        &table[LEVELS..COUNT_AT],
+        &keys[..n],
+        seg,
+    );
     let depth = found.depth;
     if depth == 0 {
         return not_found(AmlError::ValueDoesNotExist);
@@ -373,17 +441,18 @@ fn search_up(table: &[u64], path: AmlName, scope: AmlName) -> SearchAnswer
 }
 
 fn search_once(table: &[u64], path: AmlName, scope: AmlName) -> SearchAnswer
-    requires { ⌜ (wellFormed limits (now table) ≡ true) × (pathOk componentLimit path ≡ true) × Settled scope ⌝ }
+    requires { ⌜ (wellFormed limits (now table) ≡ true) × (pathOk componentLimit path ≡ true) × Settled componentLimit scope ⌝ }
     ensures { λ r. ⌜ searchTold r ≡ told componentLimit (searchOnce limits (decode limits (now (table .entry))) (pathOf path) (pathOf scope)) ⌝ }
 {
     let one = path::inner::resolved(path, scope);
-    let said = one.said;
+    let path_keys = keys_in(one);
+    let said = path_keys.said;
     match said {
         PathSaid::Refused(e) => not_found(e),
         PathSaid::Done => {
             let name = one.name;
-            let n = name.count;
-            let keys = keys_of(name);
+            let n = path_keys.count;
+            let keys = path_keys.keys;
             let found = look_up(table, &keys[..n]);
             match found {
                 HandleAnswer::Refused(e) => not_found(e),
@@ -417,13 +486,13 @@ pub fn search(table: &[u64], path: AmlName, starting_scope: AmlName) -> SearchAn
 }
 
 fn level_up(table: &[u64], path: AmlName, scope: AmlName) -> LevelAnswer
-    requires { ⌜ (wellFormed limits (now table) ≡ true) × Bare path × Settled scope ⌝ }
+    requires { ⌜ (wellFormed limits (now table) ≡ true) × Bare componentLimit path × Settled componentLimit scope ⌝ }
     ensures { λ r. ⌜ levelTold r ≡ told componentLimit (levelUp limits (decode limits (now (table .entry))) (firstOf (pathOf path)) (pathOf scope)) ⌝ }
 {
     let n = scope.count;
     let keys = keys_of(scope);
     let seg = bare_key(path);
-    let depth = table::inner::nearest_level(&table[..128], &keys[..n], seg);
+    let depth = table::inner::nearest_level(&table[..LEVELS], &keys[..n], seg);
     if depth == 0 {
         return no_level(AmlError::LevelDoesNotExist(1));
     }
@@ -434,7 +503,7 @@ fn level_up(table: &[u64], path: AmlName, scope: AmlName) -> LevelAnswer
 }
 
 fn search_level_up(table: &[u64], level_name: AmlName, starting_scope: AmlName) -> LevelAnswer
-    requires { ⌜ (wellFormed limits (now table) ≡ true) × Bare «level_name» ⌝ }
+    requires { ⌜ (wellFormed limits (now table) ≡ true) × Bare componentLimit «level_name» ⌝ }
     ensures { λ r. ⌜ levelTold r ≡ told componentLimit (levelCall limits (now (table .entry)) «level_name» «starting_scope») ⌝ }
 {
     let found = settled(starting_scope);

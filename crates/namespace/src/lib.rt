@@ -74,9 +74,9 @@ pub struct LevelAnswer {
 pub fn new(table: &mut [u64]) -> EditAnswer
     ensures { λ r. ⌜ editLeft (now (table .exit)) r ≡ left limits (now (table .entry)) (newCall limits (now (table .entry))) ⌝ }
 {
-    if table.len() == 1153 {
+    if table.len() == table::layout::WORDS {
         table::inner::clear(table);
-        table[0] = 35184372088832;
+        table[0] = table::layout::RANK;
         EditAnswer::Done
     } else {
         EditAnswer::Refused(AmlError::BadTable)
@@ -87,20 +87,15 @@ pub fn new(table: &mut [u64]) -> EditAnswer
 pub fn add_level(table: &mut [u64], path: AmlName, typ: LevelType) -> EditAnswer
     ensures { λ r. ⌜ editLeft (now (table .exit)) r ≡ left limits (now (table .entry)) (addLevelCall limits (now (table .entry)) path typ) ⌝ }
 {
-    if table::well_formed(table) {
-        let found = inner::settled(path);
-        let said = found.said;
-        match said {
-            PathSaid::Refused(e) => EditAnswer::Refused(e),
-            PathSaid::Done => {
-                let name = found.name;
-                let n = name.count;
-                let keys = inner::keys_of(name);
-                inner::add_level(table, &keys[..n], inner::type_number(typ))
-            }
+    let found = inner::keyed(table, path);
+    let said = found.said;
+    match said {
+        PathSaid::Refused(e) => EditAnswer::Refused(e),
+        PathSaid::Done => {
+            let n = found.count;
+            let keys = found.keys;
+            inner::add_level(table, &keys[..n], inner::type_number(typ))
         }
-    } else {
-        EditAnswer::Refused(AmlError::BadTable)
     }
 }
 
@@ -108,20 +103,15 @@ pub fn add_level(table: &mut [u64], path: AmlName, typ: LevelType) -> EditAnswer
 pub fn remove_level(table: &mut [u64], path: AmlName) -> EditAnswer
     ensures { λ r. ⌜ editLeft (now (table .exit)) r ≡ left limits (now (table .entry)) (removeLevelCall limits (now (table .entry)) path) ⌝ }
 {
-    if table::well_formed(table) {
-        let found = inner::settled(path);
-        let said = found.said;
-        match said {
-            PathSaid::Refused(e) => EditAnswer::Refused(e),
-            PathSaid::Done => {
-                let name = found.name;
-                let n = name.count;
-                let keys = inner::keys_of(name);
-                inner::remove_level(table, &keys[..n])
-            }
+    let found = inner::keyed(table, path);
+    let said = found.said;
+    match said {
+        PathSaid::Refused(e) => EditAnswer::Refused(e),
+        PathSaid::Done => {
+            let n = found.count;
+            let keys = found.keys;
+            inner::remove_level(table, &keys[..n])
         }
-    } else {
-        EditAnswer::Refused(AmlError::BadTable)
     }
 }
 
@@ -129,20 +119,15 @@ pub fn remove_level(table: &mut [u64], path: AmlName) -> EditAnswer
 pub fn add_value(table: &mut [u64], path: AmlName, value: u64) -> HandleAnswer
     ensures { λ r. ⌜ handleLeft (now (table .exit)) r ≡ left limits (now (table .entry)) (addValueCall limits (now (table .entry)) path value) ⌝ }
 {
-    if table::well_formed(table) {
-        let found = inner::settled(path);
-        let said = found.said;
-        match said {
-            PathSaid::Refused(e) => HandleAnswer::Refused(e),
-            PathSaid::Done => {
-                let name = found.name;
-                let n = name.count;
-                let keys = inner::keys_of(name);
-                inner::add_value(table, &keys[..n], value)
-            }
+    let found = inner::keyed(table, path);
+    let said = found.said;
+    match said {
+        PathSaid::Refused(e) => HandleAnswer::Refused(e),
+        PathSaid::Done => {
+            let n = found.count;
+            let keys = found.keys;
+            inner::add_value(table, &keys[..n], value)
         }
-    } else {
-        HandleAnswer::Refused(AmlError::BadTable)
     }
 }
 
@@ -155,20 +140,15 @@ pub fn add_value_at_resolved_path(
 ) -> HandleAnswer
     ensures { λ r. ⌜ handleLeft (now (table .exit)) r ≡ left limits (now (table .entry)) (addValueResolvedCall limits (now (table .entry)) path scope value) ⌝ }
 {
-    if table::well_formed(table) {
-        let found = path::resolve(path, scope);
-        let said = found.said;
-        match said {
-            PathSaid::Refused(e) => HandleAnswer::Refused(e),
-            PathSaid::Done => {
-                let name = found.name;
-                let n = name.count;
-                let keys = inner::keys_of(name);
-                inner::add_value(table, &keys[..n], value)
-            }
+    let found = inner::keyed_in(table, path, scope);
+    let said = found.said;
+    match said {
+        PathSaid::Refused(e) => HandleAnswer::Refused(e),
+        PathSaid::Done => {
+            let n = found.count;
+            let keys = found.keys;
+            inner::add_value(table, &keys[..n], value)
         }
-    } else {
-        HandleAnswer::Refused(AmlError::BadTable)
     }
 }
 
@@ -216,20 +196,15 @@ pub fn set(table: &mut [u64], handle: AmlHandle, value: u64) -> EditAnswer
 pub fn get_handle(table: &[u64], path: AmlName) -> HandleAnswer
     ensures { λ r. ⌜ handleSaid r ≡ getHandleCall limits (now (table .entry)) path ⌝ }
 {
-    if table::well_formed(table) {
-        let found = inner::settled(path);
-        let said = found.said;
-        match said {
-            PathSaid::Refused(e) => HandleAnswer::Refused(e),
-            PathSaid::Done => {
-                let name = found.name;
-                let n = name.count;
-                let keys = inner::keys_of(name);
-                inner::look_up(table, &keys[..n])
-            }
+    let found = inner::keyed(table, path);
+    let said = found.said;
+    match said {
+        PathSaid::Refused(e) => HandleAnswer::Refused(e),
+        PathSaid::Done => {
+            let n = found.count;
+            let keys = found.keys;
+            inner::look_up(table, &keys[..n])
         }
-    } else {
-        HandleAnswer::Refused(AmlError::BadTable)
     }
 }
 

@@ -10,7 +10,7 @@ use lib.ListN.{length, take, drop, replicate, length-append}
 use borrow.Author.Tests.{lt-leb, le-leb}
 use Rattle.pkg_length.specs.Refusal.{Answer, gives, refuses, andThen}
 use Rattle.table.specs.Limits.{Limits}
-use Rattle.table.specs.Tree.{Binding, Forest, none, level, Tree, Level, bound, levelCount}
+use Rattle.table.specs.Tree.{Binding, Forest, none, level, Tree, Level, bound, levelCount, isLive}
 use Rattle.table.specs.Layout.{pack, flat, pad}
 use Rattle.table.specs.Valid.{segmentOk, some}
 use Rattle.table.specs.Edits.{levelAt, alter, lastOf, hasLevel, insertLevel, withChild, withLevels, addLevel}
@@ -20,6 +20,7 @@ use Rattle.table.proofs.Seek.{seekF, lacking, lacks, Shorter, shorter}
 use Rattle.table.proofs.Focus.{Focus, focus}
 use Rattle.table.proofs.Insert.{PutIn, put-length, put-around, put-words, insert-bound, insert-put, insert-valid, Has, has}
 use Rattle.table.proofs.Held.{Split, split-last}
+use Rattle.table.proofs.Moves.{pos-flat}
 
 apart : {T : Type 0} {j n : ℕ} {s : Sought} → s ≡ missing n → s ≡ here j → T
 apart a b = absurd (let z : _≡_ {A = ℕ} 0 1 = cc in omega arith)
@@ -33,7 +34,7 @@ missing-same a b = cc
 -- The level that a path's last segment stands in is there, and the pass goes on among its children; or it is not, and the pass says so.
 pub record There (m : Limits) (t : Tree) (p : List ℕ) (o : Split p) : Type 0 where
   pub at : ℕ
-  pub level : Focus (m .components) (length (t .objects)) (t .levels) 0 0 (o .first ∷ o .middle) 0 at 0
+  pub level : Focus (m .components) (isLive t) (t .levels) 0 0 (o .first ∷ o .middle) 0 at 0
   pub on : seekF (t .levels) p 0 0 0 ≡ seekF (level .kids) (lastOf p ∷ []) (level .rank) at (suc at)
 
 pub record Lacks (t : Tree) (p : List ℕ) (o : Split p) : Type 0 where
@@ -44,7 +45,7 @@ pub record Lacks (t : Tree) (p : List ℕ) (o : Split p) : Type 0 where
 pub parent : (m : Limits) (t : Tree) → Whole m t → (p : List ℕ) (o : Split p) → There m t p o ⊎ Lacks t p o
 parent m t w p o =
     go (seekF (t .levels) (o .first ∷ o .middle) 0 0 0) refl
-    (lacks (m .components) (length (t .objects)) (t .levels) 0 0 (o .first) (o .middle) 0 0 (w .forest))
+    (lacks (m .components) (isLive t) (t .levels) 0 0 (o .first) (o .middle) 0 0 (w .forest))
     (shorter (t .levels) 0 (o .first) (o .middle) (lastOf p) [] 0 0)
   where
     all : seekF (t .levels) p 0 0 0 ≡ seekF (t .levels) (o .first ∷ (o .middle ++ (lastOf p ∷ []))) 0 0 0
@@ -53,7 +54,7 @@ parent m t w p o =
     go : (x : Sought) → seekF (t .levels) (o .first ∷ o .middle) 0 0 0 ≡ x → lacking 0 (o .middle) x (levelAt 0 (t .levels) (o .first ∷ o .middle))
         → Shorter 0 (o .middle) x (seekF (t .levels) (o .first ∷ (o .middle ++ (lastOf p ∷ []))) 0 0 0) → There m t p o ⊎ Lacks t p o
     go (here i) e a b =
-        let f = focus (m .components) (length (t .objects)) (t .levels) 0 0 (o .first) (o .middle) 0 0 i (w .forest) e in
+        let f = focus (m .components) (isLive t) (t .levels) 0 0 (o .first) (o .middle) 0 0 i (w .forest) e in
         inl (record { at = i; level = f; on = all ∙ f .through (lastOf p ∷ []) })
     go (before i) e a b = inr (record { place = 0 + length (o .middle); level = a; stop = all ∙ b })
     go (missing n) e a b = inr (record { place = n; level = a; stop = all ∙ b })
@@ -73,14 +74,14 @@ module _ (m : Limits) (t : Tree) (w : Whole m t) (p : List ℕ) (h : 1 < length 
     child : (x : Sought) → seekF (t .levels) p 0 0 0 ≡ x → Has x (hasLevel (lastOf p) (f .level .kids))
     child x e =
         subst (λ (y : Sought). Has y (hasLevel (lastOf p) (f .level .kids))) (sym (f .on) ∙ e)
-        (has (m .components) (length (t .objects)) (f .level .kids) (f .level .rank) 0 (lastOf p) (f .at) (suc (f .at)) (f .level .valid .1))
+        (has (m .components) (isLive t) (f .level .kids) (f .level .rank) 0 (lastOf p) (f .at) (suc (f .at)) (f .level .valid .1))
 
   -- the level is there
   pub add-here : (j : ℕ) → seekF (t .levels) p 0 0 0 ≡ here j → addLevel m t p typ ≡ gives t
   add-here j d = ⊎-elim found (λ f. apart (f .stop) d) (parent m t w p o)
     where
       found : There m t p o → addLevel m t p typ ≡ gives t
-      found f = inside (gives (record { bindings = f .level .b; children = f .level .kids })) (f .level .found) ∙ rw (child f (here j) d)
+      found f = inside (gives (record { segment = f .level .seg; typ = f .level .typ; bindings = f .level .b; children = f .level .kids })) (f .level .found) ∙ rw (child f (here j) d)
 
   -- a level on the way is not
   pub add-missing : (n : ℕ) → seekF (t .levels) p 0 0 0 ≡ missing n → addLevel m t p typ ≡ refuses 15 n
@@ -97,7 +98,7 @@ module _ (m : Limits) (t : Tree) (w : Whole m t) (p : List ℕ) (h : 1 < length 
     there : There m t p o
     there = ⊎-elim (λ f. f) (λ f. aside (f .stop) d) (parent m t w p o)
 
-    abbrev spot : Focus (m .components) (length (t .objects)) (t .levels) 0 0 (o .first ∷ o .middle) 0 (there .at) 0
+    abbrev spot : Focus (m .components) (isLive t) (t .levels) 0 0 (o .first ∷ o .middle) 0 (there .at) 0
     spot = there .level
 
     unfoldable pub grown : Tree
@@ -105,7 +106,7 @@ module _ (m : Limits) (t : Tree) (w : Whole m t) (p : List ℕ) (h : 1 < length 
 
     pub add-before : addLevel m t p typ ≡ cond (leb (m .levels) (levelCount (t .levels))) (refuses 18 0) (gives grown)
     unfolding grown new
-    add-before = inside (gives (record { bindings = spot .b; children = spot .kids })) (spot .found) ∙ rw (child there (before j) d)
+    add-before = inside (gives (record { segment = spot .seg; typ = spot .typ; bindings = spot .b; children = spot .kids })) (spot .found) ∙ rw (child there (before j) d)
 
     rank-is : suc (spot .rank) ≡ length p
     rank-is = omega (arith, spot .deep, o .long)
@@ -155,7 +156,7 @@ module _ (m : Limits) (t : Tree) (w : Whole m t) (p : List ℕ) (h : 1 < length 
     unfolding pad grown
     add-words ls e l =
         ap (λ (x : List ℕ). take j x ++ push (pack (length p) typ 0 (lastOf p)) (drop j x)) (e ∙ ap (λ (n : ℕ). flat 1 (t .levels) ++ replicate n 0) (more (length (flat 1 (t .levels))) (m .levels) l))
-        ∙ put-words (flat 1 (t .levels)) (flat 1 new) (pack (length p) typ 0 (lastOf p)) j (m .levels - suc (length (flat 1 (t .levels)))) put
+        ∙ put-words (flat 1 (t .levels)) (flat 1 new) (pack (length p) typ 0 (lastOf p)) j (m .levels - suc (length (flat 1 (t .levels)))) (pos-flat (m .components) (isLive t) (t .levels) 1 0 (w .forest)) put
         ∙ ap (λ (n : ℕ). flat 1 new ++ replicate (m .levels - n) 0) (sym (put-length (flat 1 (t .levels)) (flat 1 new) (pack (length p) typ 0 (lastOf p)) j 0 put))
       where
         more : (n k : ℕ) → n < k → k - n ≡ suc (k - suc n)
@@ -173,7 +174,7 @@ module _ (m : Limits) (t : Tree) (w : Whole m t) (p : List ℕ) (h : 1 < length 
           rooted = root-stays (t .levels) (o .first) (o .middle) (w .rooted);
           forest = spot .keeps (withChild (lastOf p) typ) (
             spot .valid .0,
-            insert-valid (m .components) (length (t .objects)) (lastOf p) typ (spot .rank) (omega (arith, spot .deep)) (omega (arith, rank-is)) hs ht (spot .kids) 0 (there .at) (suc (there .at)) j
+            insert-valid (m .components) (isLive t) (lastOf p) typ (spot .rank) (omega (arith, spot .deep)) (omega (arith, rank-is)) hs ht (spot .kids) 0 (there .at) (suc (there .at)) j
                 (omega arith) (spot .valid .1) (sym (there .on) ∙ d),
             spot .valid .2,
           );

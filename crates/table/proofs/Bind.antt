@@ -2,28 +2,28 @@
 use mathlib.Core.Path.{_≡_, ap, ap₂, sym, _∙_}
 use mathlib.Core.Bool.{true}
 use mathlib.Core.List.{List, _∷_, _++_, append-assoc, map, map-append}
-use Prim.Native.Nat.{ℕ, suc, _+_, _<_, _≤_}
+use Prim.Native.Nat.{ℕ, suc, _+_, _<_, _≤_, _^_}
 use native.Mathlib.Omega.{arith}
 use lib.ListN.{length, take, drop, getD, set, replicate, length-append, length-map}
 use lib.Seq.{take-at, drop-at, getD-at, set-at}
 use borrow.Author.Tests.{lt-ltb}
 use Rattle.table.specs.Limits.{Limits}
-use Rattle.table.specs.Tree.{Binding, Forest, Tree, bound}
+use Rattle.table.specs.Tree.{Binding, Forest, Tree, bound, isLive}
 use Rattle.table.specs.Layout.{pack, countOf, flat, bindWord, bindingOf}
 use Rattle.table.specs.Valid.{segmentOk, countOk}
 use Rattle.table.specs.Edits.{alter, insertBinding, withBinding}
 use Rattle.table.specs.Inside.{before, counts, bindingsAt}
 use Rattle.table.proofs.Words.{count-pack, bindings-back}
 use Rattle.table.proofs.Shape.{Valid, LevelTests, level-tests, tests-level, fit}
-use Rattle.table.proofs.Whole.{Whole, length-words}
+use Rattle.table.proofs.Whole.{Whole, length-words, small-handles}
 use Rattle.table.proofs.Focus.{Focus}
 use Rattle.table.proofs.Insert.{PutIn, put-length}
 use Rattle.table.proofs.Slots.{FreeAt}
 
 -- the bindings of the level in focus, as the words have them
-module _ (m : Limits) (t : Tree) (w : Whole m t) (hm : m .objects ≤ 4294967296) (ls bs : List ℕ) (z y : ℕ)
+module _ (m : Limits) (t : Tree) (w : Whole m t) (hm : m .objects ≤ 2 ^ 32) (ls bs : List ℕ) (z y : ℕ)
     (els : ls ≡ flat 1 (t .levels) ++ replicate z 0) (ebs : bs ≡ map bindWord (bound (t .levels)) ++ replicate y 0)
-    (q : List ℕ) (k : ℕ) (f : Focus (m .components) (length (t .objects)) (t .levels) 0 0 q 0 k 0) where
+    (q : List ℕ) (k : ℕ) (f : Focus (m .components) (isLive t) (t .levels) 0 0 q 0 k 0) where
   node : ℕ
   node = pack (f .rank) (f .typ) (length (f .b)) (f .seg)
 
@@ -70,24 +70,24 @@ module _ (m : Limits) (t : Tree) (w : Whole m t) (hm : m .objects ≤ 4294967296
       (ap₂ (λ (n : ℕ) (l : List ℕ). take n l) count-is
       (ap₂ (λ (n : ℕ) (l : List ℕ). drop n l) from-is bind-words ∙ drop-at (map bindWord (f .bpre)) (map bindWord (f .b) ++ later) (length (f .bpre)) (length-map (f .bpre) bindWord))
       ∙ take-at (map bindWord (f .b)) later (length (f .b)) (length-map (f .b) bindWord))
-      ∙ bindings-back (length (t .objects)) 0 (f .b) (omega (arith, w .objects)) (f .valid .0 .ordered)
+      ∙ bindings-back (isLive t) 0 (f .b) (small-handles m t w hm) (f .valid .0 .ordered)
 
   -- one binding more
-  module _ (s : ℕ) (x : Binding) (i : ℕ) (g : FreeAt s (length (t .objects)) 0 x (f .b) (counts (take k ls)) i) where
+  module _ (s : ℕ) (x : Binding) (i : ℕ) (g : FreeAt s (isLive t) 0 x (f .b) (counts (take k ls)) i) where
     unfoldable pub new : Forest
     new = alter (withBinding x) (t .levels) q
 
     longer : length (insertBinding x (f .b)) ≡ suc (length (f .b))
     longer = omega (arith, ap length (g .put), length-append (g .front) (x ∷ g .back), ap length (g .parts), length-append (g .front) (g .back))
 
-    more-word : (r u n n′ s : ℕ) → n′ ≡ suc n → pack r u n s + 4294967296 ≡ pack r u n′ s
+    more-word : (r u n n′ s : ℕ) → n′ ≡ suc n → pack r u n s + 2 ^ 32 ≡ pack r u n′ s
     more-word r u n n′ s e = unfold pack in omega arith
 
-    pub bound-levels : set ls k (getD ls k 0 + 4294967296) ≡ flat 1 new ++ replicate z 0
+    pub bound-levels : set ls k (getD ls k 0 + 2 ^ 32) ≡ flat 1 new ++ replicate z 0
     unfolding new withBinding flat node tail
     bound-levels =
-        ap₂ (λ (l : List ℕ) (n : ℕ). set l k (n + 4294967296)) level-words node-is
-        ∙ set-at (f .pre) node tail (pack (f .rank) (f .typ) (length (f .b)) (f .seg) + 4294967296) k at-is
+        ap₂ (λ (l : List ℕ) (n : ℕ). set l k (n + 2 ^ 32)) level-words node-is
+        ∙ set-at (f .pre) node tail (pack (f .rank) (f .typ) (length (f .b)) (f .seg) + 2 ^ 32) k at-is
         ∙ ap (λ (n : ℕ). f .pre ++ (n ∷ tail)) (more-word (f .rank) (f .typ) (length (f .b)) (length (insertBinding x (f .b))) (f .seg) longer)
         ∙ sym (ap (λ (l : List ℕ). l ++ replicate z 0) (f .is (withBinding x))
         ∙ regroup (f .pre) (pack (f .rank) (f .typ) (length (insertBinding x (f .b))) (f .seg)) (flat (suc (f .rank)) (f .kids) ++ flat (f .rank) (f .next)) (f .post) (replicate z 0))
@@ -123,12 +123,12 @@ module _ (m : Limits) (t : Tree) (w : Whole m t) (hm : m .objects ≤ 4294967296
     place-bound = omega (arith, put-binding .at, ap length (put-binding .before), length-append (put-binding .pre) (put-binding .post), length-words (t .levels))
 
     -- the new tree is valid where its new binding is
-    pub bound-valid : segmentOk s ≡ true → x .handle < length (t .objects) → f .rank < m .components → length (bound (t .levels)) < m .bindings → m .bindings < 1024
-        → Valid (m .components) (length (t .objects)) 1 0 new
+    pub bound-valid : segmentOk s ≡ true → isLive t (x .handle) ≡ true → f .rank < m .components → length (bound (t .levels)) < m .bindings → m .bindings < 1024
+        → Valid (m .components) (isLive t) 1 0 new
     unfolding new
     bound-valid n h d room cap =
         f .keeps (withBinding x) (unfold withBinding in (
-          fit (m .components) (length (t .objects)) (f .rank) (f .lo) (f .seg) (f .typ) (insertBinding x (f .b))
+          fit (m .components) (isLive t) (f .rank) (f .lo) (f .seg) (f .typ) (insertBinding x (f .b))
               (tests-level (m .components) (f .rank) (f .lo) (f .seg) (f .typ) (length (insertBinding x (f .b)))
               (record { ranked = k′ .ranked; shallow = k′ .shallow; rises = k′ .rises; named = k′ .named; counted = counted }))
               (g .up n h (omega arith)),

@@ -3,7 +3,7 @@ use mathlib.Core.Path.{_≡_, refl, ap, ap₂, sym, subst, _∙_}
 use mathlib.Core.Bool.{Bool, true, false, cond}
 use mathlib.Core.Logic.{_⊎_, inl, inr, ⊎-elim}
 use mathlib.Core.List.{List, map}
-use Prim.Native.Nat.{ℕ, suc, _+_, _-_, _<_, _≤_}
+use Prim.Native.Nat.{ℕ, suc, _+_, _-_, _<_, _≤_, _^_}
 use native.Mathlib.Omega.{arith}
 use lib.Dec.{leb}
 use lib.ListN.{length, take, drop, replicate, length-drop}
@@ -12,7 +12,7 @@ use borrow.Author.Tests.{lt-leb, le-leb, leb-true, leb-false}
 use Rattle.pkg_length.specs.Refusal.{gives, refuses, refused}
 use Rattle.pkg_length.specs.declared.AmlError.{AmlError}
 use Rattle.table.specs.Limits.{Limits}
-use Rattle.table.specs.Tree.{Binding, Tree, bound}
+use Rattle.table.specs.Tree.{Binding, Tree, bound, isLive}
 use Rattle.table.specs.Layout.{flat, bindWord}
 use Rattle.table.specs.Memory.{wellFormed, decode}
 use Rattle.table.specs.Edits.{levelAt, alter, scopeOf, lastOf, handleIn, isBound, withBinding, withLevels, lookUp, bind}
@@ -45,7 +45,7 @@ refused-bound d = absurd (let z : _≡_ {A = ℕ} 0 1 = cc in omega arith)
 refused-free : {T : Type 0} {e : AmlError} {a i : ℕ} → Spot.Refused e ≡ Spot.Free a i → T
 refused-free d = absurd (let z : _≡_ {A = ℕ} 0 1 = cc in omega arith)
 
-module _ (m : Limits) (hm : m .objects ≤ 4294967296) (ws : List ℕ) (ok : wellFormed m ws ≡ true) where
+module _ (m : Limits) (hm : m .objects ≤ 2 ^ 32) (ws : List ℕ) (ok : wellFormed m ws ≡ true) where
   abbrev t : Tree
   t = decode m ws
 
@@ -71,7 +71,7 @@ module _ (m : Limits) (hm : m .objects ≤ 4294967296) (ws : List ℕ) (ok : wel
       total : counts ls ≡ length (bound (t .levels))
       total =
           ap counts (levels-are m hm ws ok) ∙ counts-append (flat 1 (t .levels)) (replicate z 0)
-          ∙ ap₂ _+_ (counts-flat (m .components) (length (t .objects)) 1 0 (t .levels) (whole m hm ws ok .forest)) (counts-spare z) ∙ plus (length (bound (t .levels)))
+          ∙ ap₂ _+_ (counts-flat (m .components) (isLive t) 1 0 (t .levels) (whole m hm ws ok .forest)) (counts-spare z) ∙ plus (length (bound (t .levels)))
         where
           plus : (n : ℕ) → n + 0 ≡ n
           plus n = omega arith
@@ -87,7 +87,7 @@ module _ (m : Limits) (hm : m .objects ≤ 4294967296) (ws : List ℕ) (ok : wel
     pub record At : Type 0 where
       pub more : 1 < length p
       pub at : ℕ
-      pub level : Focus (m .components) (length (t .objects)) (t .levels) 0 0 (scopeOf p) 0 at 0
+      pub level : Focus (m .components) (isLive t) (t .levels) 0 0 (scopeOf p) 0 at 0
       pub told : spotIn ls bs p ≡ slotSpot at (slotIn (lastOf p) (level .b) (counts (take at ls)))
 
     module _ (h : 1 < length p) (e : AmlError) (l : levelAt 0 (t .levels) (scopeOf p) ≡ refused e) where
@@ -123,9 +123,9 @@ module _ (m : Limits) (hm : m .objects ≤ 4294967296) (ws : List ℕ) (ok : wel
         deep : (h : 1 < length p) (o : Split p) (s : Sought) → seekF (t .levels) (scopeOf p) 0 0 0 ≡ s
             → lacking 0 (o .middle) s (levelAt 0 (t .levels) (scopeOf p)) → At ⊎ Away
         deep h o (here k) e l =
-            let f : Focus (m .components) (length (t .objects)) (t .levels) 0 0 (scopeOf p) 0 k 0 =
-            subst (λ (q : List ℕ). Focus (m .components) (length (t .objects)) (t .levels) 0 0 q 0 k 0) (sym (o .scope))
-            (focus (m .components) (length (t .objects)) (t .levels) 0 0 (o .first) (o .middle) 0 0 k (whole m hm ws ok .forest) (sym (ap (λ (q : List ℕ). seekF (t .levels) q 0 0 0) (o .scope)) ∙ e)) in
+            let f : Focus (m .components) (isLive t) (t .levels) 0 0 (scopeOf p) 0 k 0 =
+            subst (λ (q : List ℕ). Focus (m .components) (isLive t) (t .levels) 0 0 q 0 k 0) (sym (o .scope))
+            (focus (m .components) (isLive t) (t .levels) 0 0 (o .first) (o .middle) 0 0 k (whole m hm ws ok .forest) (sym (ap (λ (q : List ℕ). seekF (t .levels) q 0 0 0) (o .scope)) ∙ e)) in
             inl (record {
               more = h;
               at = k;
@@ -156,7 +156,7 @@ module _ (m : Limits) (hm : m .objects ≤ 4294967296) (ws : List ℕ) (ok : wel
             let o = split-last p h in
             deep h o (seekF (t .levels) (scopeOf p) 0 0 0) refl
             (subst (λ (q : List ℕ). lacking 0 (o .middle) (seekF (t .levels) q 0 0 0) (levelAt 0 (t .levels) q)) (sym (o .scope))
-            (lacks (m .components) (length (t .objects)) (t .levels) 0 0 (o .first) (o .middle) 0 0 (whole m hm ws ok .forest)))
+            (lacks (m .components) (isLive t) (t .levels) 0 0 (o .first) (o .middle) 0 0 (whole m hm ws ok .forest)))
 
     -- the definitions, at the level that is there
     module _ (a : At) where
@@ -187,18 +187,18 @@ module _ (m : Limits) (hm : m .objects ≤ 4294967296) (ws : List ℕ) (ok : wel
               let s = slot-bound (lastOf p) (a .level .b) (counts (take (a .at) ls)) h (slot-of-bound (a .at) (slotIn (lastOf p) (a .level .b) (counts (take (a .at) ls))) (sym (a .told) ∙ sym e ∙ d)) in
               (at-looked a ∙ s .0, λ x. at-tied a x ∙ rw (s .1))
 
-      pub spot-live : (h : ℕ) → r ≡ Spot.Bound h → h < length (t .objects)
+      pub spot-live : (h : ℕ) → r ≡ Spot.Bound h → isLive t h ≡ true
       spot-live h d = ⊎-elim found (λ a. refused-bound (sym (a .told) ∙ sym e ∙ d)) view
         where
-          found : At → h < length (t .objects)
+          found : At → isLive t h ≡ true
           found a =
-              slot-live (lastOf p) (length (t .objects)) 0 (a .level .b) (counts (take (a .at) ls)) h (a .level .valid .0 .ordered)
+              slot-live (lastOf p) (isLive t) 0 (a .level .b) (counts (take (a .at) ls)) h (a .level .valid .0 .ordered)
               (slot-of-bound (a .at) (slotIn (lastOf p) (a .level .b) (counts (take (a .at) ls))) (sym (a .told) ∙ sym e ∙ d))
 
       -- what is known where the segment is free
       pub record Open (at i : ℕ) : Type 0 where
         pub more : 1 < length p
-        pub level : Focus (m .components) (length (t .objects)) (t .levels) 0 0 (scopeOf p) 0 at 0
+        pub level : Focus (m .components) (isLive t) (t .levels) 0 0 (scopeOf p) 0 at 0
         pub slot : slotIn (lastOf p) (level .b) (counts (take at ls)) ≡ Slot.Free i
         pub looked : lookUp t p ≡ refuses 16 0
         pub tied : (h : ℕ) → bind m t p h ≡ cond (leb (m .bindings) (length (bound (t .levels)))) (refuses 19 0)
@@ -214,5 +214,5 @@ module _ (m : Limits) (hm : m .objects ≤ 4294967296) (ws : List ℕ) (ok : wel
               s : (slotIn (lastOf p) (a .level .b) (counts (take (a .at) ls)) ≡ Slot.Free i) × (a .at ≡ at)
               s = slot-of-free (a .at) (slotIn (lastOf p) (a .level .b) (counts (take (a .at) ls))) (sym (a .told) ∙ sym e ∙ d)
 
-              x : FreeAt (lastOf p) (length (t .objects)) 0 (record { segment = lastOf p; handle = 0 }) (a .level .b) (counts (take (a .at) ls)) i
-              x = slot-free (lastOf p) (length (t .objects)) 0 (record { segment = lastOf p; handle = 0 }) (a .level .b) (counts (take (a .at) ls)) i refl (a .level .valid .0 .ordered) (s .0)
+              x : FreeAt (lastOf p) (isLive t) 0 (record { segment = lastOf p; handle = 0 }) (a .level .b) (counts (take (a .at) ls)) i
+              x = slot-free (lastOf p) (isLive t) 0 (record { segment = lastOf p; handle = 0 }) (a .level .b) (counts (take (a .at) ls)) i refl (a .level .valid .0 .ordered) (s .0)

@@ -1,15 +1,15 @@
 -- The words after a binding more, and after a value more, are those of the definition's tree.
 use mathlib.Core.Path.{_≡_, refl, ap, ap₂, sym, _∙_}
-use mathlib.Core.Bool.{true}
+use mathlib.Core.Bool.{true, Bool, false, cond}
 use mathlib.Core.List.{List, [], _∷_, _++_, append-assoc, map}
-use Prim.Native.Nat.{ℕ, suc, _+_, _*_, _-_, _<_, _≤_}
+use Prim.Native.Nat.{ℕ, suc, _+_, _*_, _-_, _<_, _≤_, _^_}
 use native.Mathlib.Omega.{arith}
 use lib.ListN.{length, take, drop, getD, set, replicate, length-append, length-set, take-append-drop}
 use lib.Seq.{getD-take, set-at, drop-set-lt, take-set-lt, drop-drop}
 use borrow.Author.Tests.{lt-leb, le-leb}
 use Rattle.pkg_length.specs.Refusal.{Answer, gives, refuses}
 use Rattle.table.specs.Limits.{Limits}
-use Rattle.table.specs.Tree.{Binding, Forest, Tree, bound}
+use Rattle.table.specs.Tree.{Binding, Forest, Tree, bound, isLive}
 use Rattle.table.specs.Layout.{pack, flat, pad, encode, bindWord}
 use Rattle.table.specs.Memory.{wellFormed, decode, Left}
 use Rattle.table.specs.Edits.{alter, scopeOf, lastOf, withBinding, withLevels, withObjects, bind}
@@ -23,6 +23,8 @@ use Rattle.table.proofs.Held.{levels-are, bindings-are, rebuild}
 use Rattle.table.proofs.Slots.{FreeAt, slot-free}
 use Rattle.table.proofs.Bind.{node-is, new, bound-levels, same-count, put-binding, one-bound, place-bound}
 use Rattle.table.proofs.BindCalls.{Open}
+use Rattle.table.proofs.Moves.{pos-bound}
+use lib.Dec.{eqb}
 
 same-left : {A : Type 0} {ws us : List ℕ} {a b : Answer A} → ws ≡ us → a ≡ b → _≡_ {A = Left A} (record { words = ws; said = a }) (record { words = us; said = b })
 same-left e f = λ i. record { words = e i; said = f i }
@@ -64,25 +66,29 @@ module _ (A vs : List ℕ) (room v : ℕ) (h : length vs < room) where
 
 -- the code's two stores
 pub bind-moves : (m : Limits) (ws : List ℕ) (at i word : ℕ) → at < m .levels → (vs : List ℕ)
-    → vs ≡ take i (take (m .bindings) (drop (m .levels) (set ws at (getD ws at 0 + 4294967296)))) ++ push word (drop i (take (m .bindings) (drop (m .levels) (set ws at (getD ws at 0 + 4294967296)))))
-    → take (m .levels) (set ws at (getD ws at 0 + 4294967296)) ++ (vs ++ drop (m .bindings) (drop (m .levels) (set ws at (getD ws at 0 + 4294967296)))) ≡ bindWords m ws at i word
+    → vs ≡ take i (take (m .bindings) (drop (m .levels) (set ws at (getD ws at 0 + 2 ^ 32)))) ++ push word (drop i (take (m .bindings) (drop (m .levels) (set ws at (getD ws at 0 + 2 ^ 32)))))
+    → take (m .levels) (set ws at (getD ws at 0 + 2 ^ 32)) ++ (vs ++ drop (m .bindings) (drop (m .levels) (set ws at (getD ws at 0 + 2 ^ 32)))) ≡ bindWords m ws at i word
 unfolding bindWords
 bind-moves m ws at i word h vs v =
-    let d : drop (m .levels) (set ws at (getD ws at 0 + 4294967296)) ≡ drop (m .levels) ws = drop-set-lt (m .levels) ws at (getD ws at 0 + 4294967296) h in
-    ap₂ {C = List ℕ} _++_ (take-set-lt (m .levels) ws at (getD ws at 0 + 4294967296) h)
+    let d : drop (m .levels) (set ws at (getD ws at 0 + 2 ^ 32)) ≡ drop (m .levels) ws = drop-set-lt (m .levels) ws at (getD ws at 0 + 2 ^ 32) h in
+    ap₂ {C = List ℕ} _++_ (take-set-lt (m .levels) ws at (getD ws at 0 + 2 ^ 32) h)
     (ap₂ {C = List ℕ} _++_ (v ∙ ap (λ (l : List ℕ). take i (take (m .bindings) l) ++ push word (drop i (take (m .bindings) l))) d)
     (ap (drop (m .bindings)) d ∙ drop-drop (m .bindings) (m .levels) ws))
 
 length-push : (c : ℕ) (xs : List ℕ) → length (push c xs) ≡ length xs
 unfolding push
 length-push c [] = refl
-length-push c (x ∷ xs) = ap suc (length-push x xs)
+length-push c (x ∷ xs) = ap suc (go (eqb x 0) (length-push x xs))
+  where
+    go : (t : Bool) → length (push x xs) ≡ length xs → length (cond t xs (push x xs)) ≡ length xs
+    go true h = refl
+    go false h = h
 
 pub bind-length : (m : Limits) (ws : List ℕ) (at i word : ℕ) → length (bindWords m ws at i word) ≡ length ws
 unfolding bindWords
 bind-length m ws at i word =
-    length-append (set (take (m .levels) ws) at (getD ws at 0 + 4294967296)) _
-    ∙ ap₂ _+_ (length-set (take (m .levels) ws) at (getD ws at 0 + 4294967296))
+    length-append (set (take (m .levels) ws) at (getD ws at 0 + 2 ^ 32)) _
+    ∙ ap₂ _+_ (length-set (take (m .levels) ws) at (getD ws at 0 + 2 ^ 32))
     (length-append (take i (take (m .bindings) (drop (m .levels) ws)) ++ push word (drop i (take (m .bindings) (drop (m .levels) ws)))) (drop (m .levels + m .bindings) ws)
     ∙ ap₂ _+_ (length-append (take i (take (m .bindings) (drop (m .levels) ws))) _ ∙ ap₂ _+_ refl (length-push word (drop i (take (m .bindings) (drop (m .levels) ws))))
     ∙ sym (length-append (take i (take (m .bindings) (drop (m .levels) ws))) _) ∙ ap length (take-append-drop i (take (m .bindings) (drop (m .levels) ws)))) refl)
@@ -93,7 +99,7 @@ bind-length m ws at i word =
         ap₂ _+_ refl (ap₂ _+_ refl (ap length (sym (drop-drop (m .bindings) (m .levels) ws))) ∙ sym (length-append (take (m .bindings) (drop (m .levels) ws)) _) ∙ ap length (take-append-drop (m .bindings) (drop (m .levels) ws)))
         ∙ sym (length-append (take (m .levels) ws) (drop (m .levels) ws)) ∙ ap length (take-append-drop (m .levels) ws)
 
-module _ (m : Limits) (hm : m .objects ≤ 4294967296) (ws : List ℕ) (ok : wellFormed m ws ≡ true) (p : List ℕ) (r : Spot)
+module _ (m : Limits) (hm : m .objects ≤ 2 ^ 32) (ws : List ℕ) (ok : wellFormed m ws ≡ true) (p : List ℕ) (r : Spot)
     (e : r ≡ spotIn (take (m .levels) ws) (take (m .bindings) (drop (m .levels) ws)) p) (at i : ℕ) (o : Open m hm ws ok p r e at i) where
   abbrev t : Tree
   t = decode m ws
@@ -116,10 +122,10 @@ module _ (m : Limits) (hm : m .objects ≤ 4294967296) (ws : List ℕ) (ok : wel
   abbrev tied : ℕ → Binding
   tied h = record { segment = lastOf p; handle = h }
 
-  free : (h : ℕ) → FreeAt (lastOf p) (length (t .objects)) 0 (tied h) (o .level .b) (counts (take at ls)) i
-  free h = slot-free (lastOf p) (length (t .objects)) 0 (tied h) (o .level .b) (counts (take at ls)) i refl (o .level .valid .0 .ordered) (o .slot)
+  free : (h : ℕ) → FreeAt (lastOf p) (isLive t) 0 (tied h) (o .level .b) (counts (take at ls)) i
+  free h = slot-free (lastOf p) (isLive t) 0 (tied h) (o .level .b) (counts (take at ls)) i refl (o .level .valid .0 .ordered) (o .slot)
 
-  abbrev lvl : Focus (m .components) (length (t .objects)) (t .levels) 0 0 (scopeOf p) 0 at 0
+  abbrev lvl : Focus (m .components) (isLive t) (t .levels) 0 0 (scopeOf p) 0 at 0
   lvl = o .level
 
   pub level-place : at < length (flat 1 (decode m ws .levels))
@@ -127,7 +133,7 @@ module _ (m : Limits) (hm : m .objects ≤ 4294967296) (ws : List ℕ) (ok : wel
   level-place =
       omega (arith, lvl .at, ap length (lvl .was), length-append (lvl .pre) (flat (lvl .rank) (level-of lvl) ++ lvl .post), length-append (flat (lvl .rank) (level-of lvl)) (lvl .post))
     where
-      level-of : Focus (m .components) (length (t .objects)) (t .levels) 0 0 (scopeOf p) 0 at 0 → Forest
+      level-of : Focus (m .components) (isLive t) (t .levels) 0 0 (scopeOf p) 0 at 0 → Forest
       level-of f = Rattle.table.specs.Tree.level (f .seg) (f .typ) (f .b) (f .kids) (f .next)
 
   pub bind-place : (at < m .levels) × (i ≤ m .bindings)
@@ -139,12 +145,12 @@ module _ (m : Limits) (hm : m .objects ≤ 4294967296) (ws : List ℕ) (ok : wel
   word-at : getD ls at 0 ≡ getD ws at 0
   word-at = getD-take (m .levels) ws at 0 (bind-place .0)
 
-  pub word-low : m .components ≤ 256 → getD ws at 0 + 4294967296 < 18446744073709551616
+  pub word-low : m .components ≤ 256 → getD ws at 0 + 2 ^ 32 < 2 ^ 64
   word-low c =
       rw (sym word-at ∙ node-is m t w hm ls bs z y (levels-are m hm ws ok) (bindings-are m hm ws ok) (scopeOf p) at lvl)
       (low (lvl .rank) (lvl .typ) (length (lvl .b)) (lvl .seg) (omega (arith, lvl .valid .0 .shallow)) (lvl .valid .0 .small) (lvl .valid .0 .few) (lvl .valid .0 .fits))
     where
-      low : (r u n s : ℕ) → r ≤ 256 → u < 8 → n < 1024 → s < 4294967296 → pack r u n s + 4294967296 < 18446744073709551616
+      low : (r u n s : ℕ) → r ≤ 256 → u < 8 → n < 1024 → s < 2 ^ 32 → pack r u n s + 2 ^ 32 < 2 ^ 64
       low r u n s a b c d = unfold pack in omega arith
 
   pub bind-full : m .bindings ≤ length (bound (decode m ws .levels)) → (h : ℕ) → bind m (decode m ws) p h ≡ refuses 19 0
@@ -157,10 +163,10 @@ module _ (m : Limits) (hm : m .objects ≤ 4294967296) (ws : List ℕ) (ok : wel
     pub bind-room : bind m (decode m ws) p h ≡ gives (withLevels (decode m ws) f′)
     bind-room = o .tied h ∙ rw (lt-leb (m .bindings) (length (bound (t .levels))) room)
 
-    new-levels : set ls at (getD ws at 0 + 4294967296) ≡ pad (m .levels) (flat 1 f′)
+    new-levels : set ls at (getD ws at 0 + 2 ^ 32) ≡ pad (m .levels) (flat 1 f′)
     unfolding pad new
     new-levels =
-        ap (λ (n : ℕ). set ls at (n + 4294967296)) (sym word-at)
+        ap (λ (n : ℕ). set ls at (n + 2 ^ 32)) (sym word-at)
         ∙ bound-levels m t w hm ls bs z y (levels-are m hm ws ok) (bindings-are m hm ws ok) (scopeOf p) at lvl (lastOf p) (tied h) i (free h)
         ∙ ap (λ (n : ℕ). flat 1 f′ ++ replicate (m .levels - n) 0) (sym (same-count m t w hm ls bs z y (levels-are m hm ws ok) (bindings-are m hm ws ok) (scopeOf p) at lvl (lastOf p) (tied h) i (free h)))
 
@@ -170,15 +176,15 @@ module _ (m : Limits) (hm : m .objects ≤ 4294967296) (ws : List ℕ) (ok : wel
         let b : ℕ = length (map bindWord (bound (t .levels))) in
         ap (λ (l : List ℕ). take i l ++ push (bindWord (tied h)) (drop i l))
         (bindings-are m hm ws ok ∙ ap (λ (n : ℕ). map bindWord (bound (t .levels)) ++ replicate n 0) (more b (m .bindings) (rw (length-words (t .levels)) room)))
-        ∙ put-words (map bindWord (bound (t .levels))) (map bindWord (bound f′)) (bindWord (tied h)) i (m .bindings - suc b) put
+        ∙ put-words (map bindWord (bound (t .levels))) (map bindWord (bound f′)) (bindWord (tied h)) i (m .bindings - suc b) (pos-bound (m .components) (isLive t) (t .levels) 1 0 (w .forest)) put
         ∙ ap (λ (n : ℕ). map bindWord (bound f′) ++ replicate (m .bindings - n) 0) (sym (put-length (map bindWord (bound (t .levels))) (map bindWord (bound f′)) (bindWord (tied h)) i 0 put))
       where
         put : Rattle.table.proofs.Insert.PutIn (map bindWord (bound (t .levels))) (map bindWord (bound (alter (withBinding (tied h)) (decode m ws .levels) (scopeOf p)))) (bindWord (tied h)) i 0
         put = unfold new in put-binding m t w hm ls bs z y (levels-are m hm ws ok) (bindings-are m hm ws ok) (scopeOf p) at lvl (lastOf p) (tied h) i (free h)
 
-    pub bound-words : bindWords m ws at i (lastOf p * 4294967296 + h) ≡ encode m (withLevels (decode m ws) f′)
+    pub bound-words : bindWords m ws at i (lastOf p * 2 ^ 32 + h) ≡ encode m (withLevels (decode m ws) f′)
     unfolding bindWords
-    bound-words = rebuild m hm ws ok f′ (set ls at (getD ws at 0 + 4294967296)) (take i bs ++ push (bindWord (tied h)) (drop i bs)) new-levels new-binds
+    bound-words = rebuild m hm ws ok f′ (set ls at (getD ws at 0 + 2 ^ 32)) (take i bs ++ push (bindWord (tied h)) (drop i bs)) new-levels new-binds
 
     -- a value more
     front : List ℕ
@@ -193,7 +199,7 @@ module _ (m : Limits) (hm : m .objects ≤ 4294967296) (ws : List ℕ) (ok : wel
         (rw (length-words f′, one-bound m t w hm ls bs z y (levels-are m hm ws ok) (bindings-are m hm ws ok) (scopeOf p) at lvl (lastOf p) (tied h) i (free h)) room))
 
     pub value-words : (v : ℕ) → length (decode m ws .objects) < m .objects
-        → set (set (bindWords m ws at i (lastOf p * 4294967296 + h)) (m .levels + m .bindings + 1 + length (decode m ws .objects)) v) (m .levels + m .bindings) (length (decode m ws .objects) + 1)
+        → set (set (bindWords m ws at i (lastOf p * 2 ^ 32 + h)) (m .levels + m .bindings + 1 + length (decode m ws .objects)) v) (m .levels + m .bindings) (length (decode m ws .objects) + 1)
         ≡ encode m (withObjects (withLevels (decode m ws) f′) (decode m ws .objects ++ (v ∷ [])))
     unfolding encode front
     value-words v l =

@@ -1,8 +1,8 @@
 -- What a valid forest is written as passes.
 use mathlib.Core.Path.{_≡_, refl, _∙_}
-use mathlib.Core.Bool.{true}
+use mathlib.Core.Bool.{Bool, true}
 use mathlib.Core.List.{List, _∷_, _++_, append-assoc, map, map-append}
-use Prim.Native.Nat.{ℕ, zero, suc, _+_, _<_, _≤_}
+use Prim.Native.Nat.{ℕ, zero, suc, _+_, _<_, _≤_, _^_}
 use native.Mathlib.Omega.{arith}
 use native.Mathlib.Numerals.{add-one}
 use lib.ListN.{length, take, drop, getD, set, replicate, length-set, length-append, length-map}
@@ -12,28 +12,28 @@ use Rattle.table.specs.Tree.{Binding, Forest, none, level, bound}
 use Rattle.table.specs.Layout.{pack, bindWord, flat}
 use Rattle.table.specs.Inside.{scan}
 use Rattle.table.proofs.Words.{rank-pack, type-pack, count-pack, seg-pack, bindings-back}
-use Rattle.table.proofs.Shape.{LevelFit, Valid}
+use Rattle.table.proofs.Shape.{Small, LevelFit, Valid}
 use Rattle.table.proofs.Scan.{scan-zero, scan-pass}
 
-module _ (limit made : ℕ) (hm : made ≤ 4294967296) where
-  module _ (p r lo s t : ℕ) (low : List ℕ) (b : List Binding) (W X : List ℕ) (f : LevelFit limit made r lo s t b) (h : r ≤ p + 1) (e : getD low r 0 ≡ lo) where
+module _ (limit : ℕ) (live : ℕ → Bool) (hm : Small live) where
+  module _ (p r lo s t : ℕ) (low : List ℕ) (b : List Binding) (W X : List ℕ) (f : LevelFit limit live r lo s t b) (h : r ≤ p + 1) (e : getD low r 0 ≡ lo) where
     own : take (length b) (map bindWord b ++ X) ≡ map bindWord b
     own = take-at (map bindWord b) X (length b) (length-map b bindWord)
 
     rest : drop (length b) (map bindWord b ++ X) ≡ X
     rest = drop-at (map bindWord b) X (length b) (length-map b bindWord)
 
-    scan-level : scan limit made p low (pack r t (length b) s ∷ W) (map bindWord b ++ X) ≡ scan limit made r (set (set low r (s + 1)) (r + 1) 0) W X
+    scan-level : scan limit live p low (pack r t (length b) s ∷ W) (map bindWord b ++ X) ≡ scan limit live r (set (set low r (s + 1)) (r + 1) 0) W X
     scan-level =
         let rk = rank-pack r t (length b) s (f .small) (f .few) (f .fits) in
         let tk = type-pack r t (length b) s (f .small) (f .few) (f .fits) in
         let ck = count-pack r t (length b) s (f .small) (f .few) (f .fits) in
         let sk = seg-pack r t (length b) s (f .small) (f .few) (f .fits) in
-        scan-pass limit made p low (pack r t (length b) s) W (map bindWord b ++ X)
+        scan-pass limit live p low (pack r t (length b) s) W (map bindWord b ++ X)
         (record {
           step = rw rk h;
           held = rw (ck, length-append (map bindWord b) X, length-map b bindWord) (omega arith);
-          fits = rw (rk, tk, ck, sk, own, bindings-back made 0 b hm (f .ordered), e) f;
+          fits = rw (rk, tk, ck, sk, own, bindings-back live 0 b hm (f .ordered), e) f;
         })
         ∙ rw (rk, ck, sk, rest)
 
@@ -44,9 +44,9 @@ module _ (limit made : ℕ) (hm : made ≤ 4294967296) where
     pub far : r ≤ rank + 1
     pub long : length seen ≡ limit + 2
     pub same : (e : ℕ) → e < r → getD seen e 0 ≡ getD low e 0
-    pub goes : scan limit made p low ws bs ≡ scan limit made rank seen ws′ bs′
+    pub goes : scan limit live p low ws bs ≡ scan limit live rank seen ws′ bs′
 
-  pub complete : (f : Forest) (r lo p : ℕ) (low ws bs : List ℕ) → Valid limit made r lo f → length low ≡ limit + 2 → r ≤ p + 1 → getD low r 0 ≡ lo
+  pub complete : (f : Forest) (r lo p : ℕ) (low ws bs : List ℕ) → Valid limit live r lo f → length low ≡ limit + 2 → r ≤ p + 1 → getD low r 0 ≡ lo
       → After r low p (flat r f ++ ws) (map bindWord (bound f) ++ bs) ws bs
   unfolding flat bound
   complete none r lo p low ws bs v l h e = record { rank = p; seen = low; far = h; long = l; same = λ x y. refl; goes = refl }
@@ -79,6 +79,6 @@ unfolding allZero
 zeros-spare zero = refl
 zeros-spare (suc n) = zeros-spare n
 
-pub scan-spare : (limit made z p : ℕ) (low bs : List ℕ) → allZero bs ≡ true → scan limit made p low (replicate z 0) bs ≡ true
-scan-spare limit made zero p low bs h = unfold scan in h
-scan-spare limit made (suc z) p low bs h = scan-zero limit made p low 0 (replicate z 0) bs refl ∙ rw (zeros-spare z) h
+pub scan-spare : (limit : ℕ) (live : ℕ → Bool) (z p : ℕ) (low bs : List ℕ) → allZero bs ≡ true → scan limit live p low (replicate z 0) bs ≡ true
+scan-spare limit live zero p low bs h = unfold scan in h
+scan-spare limit live (suc z) p low bs h = scan-zero limit live p low 0 (replicate z 0) bs refl ∙ rw (zeros-spare z) h

@@ -1,7 +1,8 @@
 -- What a forest is written as decodes to it, whatever follows: so words mean one forest.
 use mathlib.Core.Path.{_≡_, refl, _∙_}
+use mathlib.Core.Bool.{Bool}
 use mathlib.Core.List.{List, [], _∷_, _++_, append-assoc}
-use Prim.Native.Nat.{ℕ, suc, _<_}
+use Prim.Native.Nat.{ℕ, suc, _<_, _^_}
 use native.Mathlib.Omega.{arith}
 use lib.ListN.{length, take, drop}
 use lib.Seq.{take-append-seam, drop-append-seam}
@@ -35,7 +36,7 @@ unfolding siblings
 ended r [] bs h = refl
 ended r (w ∷ ws) bs h = above r w ws bs h
 
-module _ (q t s : ℕ) (b : List Binding) (X : List ℕ) (Y : List Binding) (ht : t < 8) (hn : length b < 1024) (hs : s < 4294967296) where
+module _ (q t s : ℕ) (b : List Binding) (X : List ℕ) (Y : List Binding) (ht : t < 8) (hn : length b < 1024) (hs : s < 2 ^ 32) where
   pack-deeper : (r : ℕ) → r < q → siblings r (pack q t (length b) s ∷ X) (b ++ Y) ≡ siblings r X Y
   pack-deeper r h =
       deeper r (pack q t (length b) s) X (b ++ Y) (rw (rank-pack q t (length b) s ht hn hs) h)
@@ -46,9 +47,9 @@ module _ (q t s : ℕ) (b : List Binding) (X : List ℕ) (Y : List Binding) (ht 
       here q (pack q t (length b) s) X (b ++ Y) (rank-pack q t (length b) s ht hn hs)
       ∙ rw (seg-pack q t (length b) s ht hn hs, type-pack q t (length b) s ht hn hs, count-pack q t (length b) s ht hn hs, take-append-seam b Y, drop-append-seam b Y)
 
-module _ (limit made : ℕ) where
+module _ (limit : ℕ) (live : ℕ → Bool) where
   -- deeper records are passed over
-  passed : (r q lo : ℕ) (f : Forest) (ws : List ℕ) (bs : List Binding) → r < q → Valid limit made q lo f → siblings r (flat q f ++ ws) (bound f ++ bs) ≡ siblings r ws bs
+  passed : (r q lo : ℕ) (f : Forest) (ws : List ℕ) (bs : List Binding) → r < q → Valid limit live q lo f → siblings r (flat q f ++ ws) (bound f ++ bs) ≡ siblings r ws bs
   unfolding flat bound
   passed r q lo none ws bs h v = refl
   passed r q lo (level s t b kids next) ws bs h v =
@@ -57,13 +58,13 @@ module _ (limit made : ℕ) where
       ∙ rw (append-assoc (flat (suc q) kids) (flat q next) ws, append-assoc (bound kids) (bound next) bs)
       (passed r (suc q) 0 kids (flat q next ++ ws) (bound next ++ bs) (omega arith) (v .1) ∙ passed r q (suc s) next ws bs h (v .2)))
 
-  pub below-flat : (r lo : ℕ) (f : Forest) (ws : List ℕ) → Valid limit made r lo f → Below r ws → Below (suc r) (flat r f ++ ws)
+  pub below-flat : (r lo : ℕ) (f : Forest) (ws : List ℕ) → Valid limit live r lo f → Below r ws → Below (suc r) (flat r f ++ ws)
   unfolding flat
   below-flat r lo none [] v u = tt
   below-flat r lo none (w ∷ ws) v u = omega arith
   below-flat r lo (level s t b kids next) ws v u = omega (arith, rank-pack r t (length b) s (v .0 .small) (v .0 .few) (v .0 .fits))
 
-  pub siblings-flat : (r lo : ℕ) (f : Forest) (ws : List ℕ) (bs : List Binding) → Valid limit made r lo f → Below r ws → siblings r (flat r f ++ ws) (bound f ++ bs) ≡ f
+  pub siblings-flat : (r lo : ℕ) (f : Forest) (ws : List ℕ) (bs : List Binding) → Valid limit live r lo f → Below r ws → siblings r (flat r f ++ ws) (bound f ++ bs) ≡ f
   unfolding flat bound
   siblings-flat r lo none ws bs v u = ended r ws bs u
   siblings-flat r lo (level s t b kids next) ws bs v u =

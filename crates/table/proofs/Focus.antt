@@ -21,16 +21,16 @@ unfolding counts
 counts-append [] ys = omega arith
 counts-append (x ∷ xs) ys = ap (λ (n : ℕ). countOf x + n) (counts-append xs ys) ∙ omega arith
 
-pub counts-flat : (limit made r lo : ℕ) (f : Forest) → Valid limit made r lo f → counts (flat r f) ≡ length (bound f)
+pub counts-flat : (limit : ℕ) (live : ℕ → Bool) (r lo : ℕ) (f : Forest) → Valid limit live r lo f → counts (flat r f) ≡ length (bound f)
 unfolding counts flat bound
-counts-flat limit made r lo none v = refl
-counts-flat limit made r lo (level s t b kids next) v =
+counts-flat limit live r lo none v = refl
+counts-flat limit live r lo (level s t b kids next) v =
     ap₂ _+_ (count-pack r t (length b) s (v .0 .small) (v .0 .few) (v .0 .fits))
-    (counts-append (flat (suc r) kids) (flat r next) ∙ ap₂ _+_ (counts-flat limit made (suc r) 0 kids (v .1)) (counts-flat limit made r (suc s) next (v .2)) ∙ sym (length-append (bound kids) (bound next)))
+    (counts-append (flat (suc r) kids) (flat r next) ∙ ap₂ _+_ (counts-flat limit live (suc r) 0 kids (v .1)) (counts-flat limit live r (suc s) next (v .2)) ∙ sym (length-append (bound kids) (bound next)))
     ∙ sym (length-append b (bound kids ++ bound next))
 
 -- f is written as pre, the level at the path q with its later siblings, and post; and so with any change of it
-pub record Focus (limit made : ℕ) (f : Forest) (r lo₀ : ℕ) (q : List ℕ) (at₀ j k : ℕ) : Type 0 where
+pub record Focus (limit : ℕ) (live : ℕ → Bool) (f : Forest) (r lo₀ : ℕ) (q : List ℕ) (at₀ j k : ℕ) : Type 0 where
   pub rank : ℕ
   pub lo : ℕ
   pub seg : ℕ
@@ -48,24 +48,24 @@ pub record Focus (limit made : ℕ) (f : Forest) (r lo₀ : ℕ) (q : List ℕ) 
   pub isB : (g : Change) → bound (alter g f q) ≡ bpre ++ (bound (g seg typ b kids next) ++ bpost)
   pub at : j ≡ k + length pre
   pub off : counts pre ≡ length bpre
-  pub valid : Valid limit made rank lo (level seg typ b kids next)
-  pub keeps : (g : Change) → Valid limit made rank lo (g seg typ b kids next) → Valid limit made (suc r) lo₀ (alter g f q)
+  pub valid : Valid limit live rank lo (level seg typ b kids next)
+  pub keeps : (g : Change) → Valid limit live rank lo (g seg typ b kids next) → Valid limit live (suc r) lo₀ (alter g f q)
   pub below : (ws : List ℕ) → Below (suc r) ws → Below rank (post ++ ws)
   pub deep : rank ≡ r + length q
-  pub found : levelAt r f q ≡ gives (record { bindings = b; children = kids })
+  pub found : levelAt r f q ≡ gives (record { segment = seg; typ = typ; bindings = b; children = kids })
   pub through : (p : List ℕ) → seekF f (q ++ p) r at₀ k ≡ seekF kids p rank j (suc j)
 
 regroup : {A : Type 0} (a x p n : List A) → a ++ (x ++ p) ++ n ≡ a ++ (x ++ (p ++ n))
 regroup a x p n = simp append-assoc
 
 -- one step of the way to the level
-module _ (limit made : ℕ) (s′ t : ℕ) (b : List Binding) (kids next : Forest) (r lo₀ : ℕ) (v : Valid limit made (suc r) lo₀ (level s′ t b kids next)) where
+module _ (limit : ℕ) (live : ℕ → Bool) (s′ t : ℕ) (b : List Binding) (kids next : Forest) (r lo₀ : ℕ) (v : Valid limit live (suc r) lo₀ (level s′ t b kids next)) where
   word-count : countOf (pack (suc r) t (length b) s′) ≡ length b
   word-count = count-pack (suc r) t (length b) s′ (v .0 .small) (v .0 .few) (v .0 .fits)
 
   module _ (s at k : ℕ) where
     -- the level itself
-    focus-here : eqb s′ s ≡ true → Focus limit made (level s′ t b kids next) r lo₀ (s ∷ []) at k k
+    focus-here : eqb s′ s ≡ true → Focus limit live (level s′ t b kids next) r lo₀ (s ∷ []) at k k
     unfolding counts alter levelAt seekF
     focus-here e =
         record {
@@ -95,7 +95,7 @@ module _ (limit made : ℕ) (s′ t : ℕ) (b : List Binding) (kids next : Fores
         }
 
     -- below it
-    focus-kids : (y : ℕ) (q : List ℕ) (j : ℕ) → eqb s′ s ≡ true → Focus limit made kids (suc r) 0 (y ∷ q) k j (suc k) → Focus limit made (level s′ t b kids next) r lo₀ (s ∷ y ∷ q) at j k
+    focus-kids : (y : ℕ) (q : List ℕ) (j : ℕ) → eqb s′ s ≡ true → Focus limit live kids (suc r) 0 (y ∷ q) k j (suc k) → Focus limit live (level s′ t b kids next) r lo₀ (s ∷ y ∷ q) at j k
     unfolding flat bound counts alter levelAt seekF
     focus-kids y q j e f =
         record {
@@ -124,17 +124,17 @@ module _ (limit made : ℕ) (s′ t : ℕ) (b : List Binding) (kids next : Fores
           off = ap₂ _+_ word-count (f .off) ∙ sym (length-append b (f .bpre));
           valid = f .valid;
           keeps = λ g x. rw e (v .0, f .keeps g x, v .2);
-          below = λ ws u. rw (append-assoc (f .post) (flat (suc r) next) ws) (f .below (flat (suc r) next ++ ws) (below-flat limit made (suc r) (suc s′) next ws (v .2) u));
+          below = λ ws u. rw (append-assoc (f .post) (flat (suc r) next) ws) (f .below (flat (suc r) next ++ ws) (below-flat limit live (suc r) (suc s′) next ws (v .2) u));
           deep = omega (arith, f .deep);
           found = rw e (f .found);
           through = λ p. rw e (f .through p);
         }
 
     -- among its later siblings
-    focus-next : (q : List ℕ) (j : ℕ) → eqb s′ s ≡ false → ltb s s′ ≡ false → Focus limit made next r (suc s′) (s ∷ q) at j (after kids (suc k))
+    focus-next : (q : List ℕ) (j : ℕ) → eqb s′ s ≡ false → ltb s s′ ≡ false → Focus limit live next r (suc s′) (s ∷ q) at j (after kids (suc k))
         → ((g : Change) → alter g (level s′ t b kids next) (s ∷ q) ≡ level s′ t b kids (alter g next (s ∷ q)))
         → levelAt r (level s′ t b kids next) (s ∷ q) ≡ levelAt r next (s ∷ q)
-        → Focus limit made (level s′ t b kids next) r lo₀ (s ∷ q) at j k
+        → Focus limit live (level s′ t b kids next) r lo₀ (s ∷ q) at j k
     unfolding flat bound counts seekF
     focus-next q j e d f eqn same =
         record {
@@ -157,7 +157,7 @@ module _ (limit made : ℕ) (s′ t : ℕ) (b : List Binding) (kids next : Fores
               ∙ ap (λ (l : List Binding). b ++ l) (ap (λ (l : List Binding). bound kids ++ l) (f .isB g) ∙ sym (append-assoc (bound kids) (f .bpre) _)) ∙ sym (append-assoc b (bound kids ++ f .bpre) _);
           at = omega (arith, f .at, after-is kids (suc (suc r)) (suc k), length-append (flat (suc (suc r)) kids) (f .pre));
           off = ap₂ _+_ word-count
-              (counts-append (flat (suc (suc r)) kids) (f .pre) ∙ ap₂ _+_ (counts-flat limit made (suc (suc r)) 0 kids (v .1)) (f .off) ∙ sym (length-append (bound kids) (f .bpre)))
+              (counts-append (flat (suc (suc r)) kids) (f .pre) ∙ ap₂ _+_ (counts-flat limit live (suc (suc r)) 0 kids (v .1)) (f .off) ∙ sym (length-append (bound kids) (f .bpre)))
               ∙ sym (length-append b (bound kids ++ f .bpre));
           valid = f .valid;
           keeps = λ g x. rw (eqn g) (v .0, v .1, f .keeps g x);
@@ -186,27 +186,27 @@ unfolding gone
 gone-not [] r k j e = let z : _≡_ {A = ℕ} 0 1 = cc in omega arith
 gone-not (x ∷ p) r k j e = let z : _≡_ {A = ℕ} 0 1 = cc in omega arith
 
-module _ (limit made : ℕ) (s′ t : ℕ) (b : List Binding) (kids next : Forest) (r lo₀ : ℕ) (v : Valid limit made (suc r) lo₀ (level s′ t b kids next)) (s : ℕ) (p : List ℕ) (at k j : ℕ)
-    (inside : eqb s′ s ≡ true → seekF kids p (suc r) k (suc k) ≡ here j → Focus limit made (level s′ t b kids next) r lo₀ (s ∷ p) at j k)
-    (later : seekF next (s ∷ p) r at (after kids (suc k)) ≡ here j → Focus limit made next r (suc s′) (s ∷ p) at j (after kids (suc k))) where
+module _ (limit : ℕ) (live : ℕ → Bool) (s′ t : ℕ) (b : List Binding) (kids next : Forest) (r lo₀ : ℕ) (v : Valid limit live (suc r) lo₀ (level s′ t b kids next)) (s : ℕ) (p : List ℕ) (at k j : ℕ)
+    (inside : eqb s′ s ≡ true → seekF kids p (suc r) k (suc k) ≡ here j → Focus limit live (level s′ t b kids next) r lo₀ (s ∷ p) at j k)
+    (later : seekF next (s ∷ p) r at (after kids (suc k)) ≡ here j → Focus limit live next r (suc s′) (s ∷ p) at j (after kids (suc k))) where
   focus-pick : (e d : Bool) → eqb s′ s ≡ e → ltb s s′ ≡ d → cond e (seekF kids p (suc r) k (suc k)) (cond d (gone p r k) (seekF next (s ∷ p) r at (after kids (suc k)))) ≡ here j
-      → Focus limit made (level s′ t b kids next) r lo₀ (s ∷ p) at j k
+      → Focus limit live (level s′ t b kids next) r lo₀ (s ∷ p) at j k
   focus-pick true d x z y = inside x y
   focus-pick false true x z y = absurd (gone-not p r k j y)
   focus-pick false false x z y =
-      focus-next limit made s′ t b kids next r lo₀ v s at k p j x z (later y) (λ g. alter-next s′ t b kids next s x p g) (level-next s′ t b kids next s x p r)
+      focus-next limit live s′ t b kids next r lo₀ v s at k p j x z (later y) (λ g. alter-next s′ t b kids next s x p g) (level-next s′ t b kids next s x p r)
 
 -- whatever the pass finds has its focus
-pub focus : (limit made : ℕ) (f : Forest) (r lo₀ s : ℕ) (p : List ℕ) (at k j : ℕ) → Valid limit made (suc r) lo₀ f → seekF f (s ∷ p) r at k ≡ here j → Focus limit made f r lo₀ (s ∷ p) at j k
+pub focus : (limit : ℕ) (live : ℕ → Bool) (f : Forest) (r lo₀ s : ℕ) (p : List ℕ) (at k j : ℕ) → Valid limit live (suc r) lo₀ f → seekF f (s ∷ p) r at k ≡ here j → Focus limit live f r lo₀ (s ∷ p) at j k
 unfolding seekF
-focus limit made none r lo₀ s p at k j v e = absurd (gone-not p r k j e)
-focus limit made (level s′ t b kids next) r lo₀ s [] at k j v e =
-    focus-pick limit made s′ t b kids next r lo₀ v s [] at k j
-    (λ x y. rw (← here-same (sym (seek-nil kids (suc r) k (suc k)) ∙ y)) (focus-here limit made s′ t b kids next r lo₀ v s at k x))
-    (focus limit made next r (suc s′) s [] at (after kids (suc k)) j (v .2))
+focus limit live none r lo₀ s p at k j v e = absurd (gone-not p r k j e)
+focus limit live (level s′ t b kids next) r lo₀ s [] at k j v e =
+    focus-pick limit live s′ t b kids next r lo₀ v s [] at k j
+    (λ x y. rw (← here-same (sym (seek-nil kids (suc r) k (suc k)) ∙ y)) (focus-here limit live s′ t b kids next r lo₀ v s at k x))
+    (focus limit live next r (suc s′) s [] at (after kids (suc k)) j (v .2))
     (eqb s′ s) (ltb s s′) refl refl e
-focus limit made (level s′ t b kids next) r lo₀ s (x ∷ q) at k j v e =
-    focus-pick limit made s′ t b kids next r lo₀ v s (x ∷ q) at k j
-    (λ y z. focus-kids limit made s′ t b kids next r lo₀ v s at k x q j y (focus limit made kids (suc r) 0 x q k (suc k) j (v .1) z))
-    (focus limit made next r (suc s′) s (x ∷ q) at (after kids (suc k)) j (v .2))
+focus limit live (level s′ t b kids next) r lo₀ s (x ∷ q) at k j v e =
+    focus-pick limit live s′ t b kids next r lo₀ v s (x ∷ q) at k j
+    (λ y z. focus-kids limit live s′ t b kids next r lo₀ v s at k x q j y (focus limit live kids (suc r) 0 x q k (suc k) j (v .1) z))
+    (focus limit live next r (suc s′) s (x ∷ q) at (after kids (suc k)) j (v .2))
     (eqb s′ s) (ltb s s′) refl refl e

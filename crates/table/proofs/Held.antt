@@ -1,70 +1,29 @@
 -- What well-formed memory shows of its tree: where paths lead, and whether there is room.
 use mathlib.Core.Path.{_≡_, refl, ap, ap₂, sym, _∙_}
-use mathlib.Core.Bool.{true}
+use mathlib.Core.Bool.{Bool, true}
 use mathlib.Core.List.{List, [], _∷_, _++_, map, map-append}
 use mathlib.Core.Logic.{⊎-elim}
-use Prim.Native.Nat.{ℕ, zero, suc, _+_, _-_, _<_, _≤_}
+use Prim.Native.Nat.{ℕ, zero, suc, _+_, _-_, _<_, _≤_, _^_}
 use native.Mathlib.Omega.{arith}
 use native.Mathlib.Nat.{not-suc-le-zero, le-of-suc-le-suc, eq-or-lt-of-le}
 use lib.Dec.{leb, ltb}
 use lib.ListN.{length, take, drop, getD, replicate, List·getD-append, take-append-drop}
 use lib.Seq.{getD-append-add, take-suc, take-all, length-take-le, drop-drop}
-use Rattle.name_object.proofs.Paths.{both}
 use Rattle.table.specs.Limits.{Limits}
-use Rattle.table.specs.Tree.{Binding, Forest, none, level, bound}
+use Rattle.table.specs.Tree.{Binding, Forest, none, level, bound, isLive}
 use Rattle.table.specs.Layout.{pack, flat, pad, encode, bindWord}
-use Rattle.table.specs.Valid.{segmentOk, rising}
+use Rattle.table.specs.Valid.{rising}
 use Rattle.table.specs.Memory.{wellFormed, decode}
 use Rattle.table.specs.Edits.{scopeOf, lastOf, withLevels}
 use Rattle.table.specs.Inside.{seekIn}
-use Rattle.table.proofs.Shape.{Valid, segment-range}
+use Rattle.table.proofs.Shape.{Valid, binding-tests}
+use Rattle.table.proofs.Numbers.{segment-range}
 use Rattle.table.proofs.Decode.{below-spare}
 use Rattle.table.proofs.Whole.{length-words}
 use Rattle.table.proofs.Memory.{levelPart, bindPart, objectPart, first-is, second-is, third-is}
 use Rattle.table.proofs.Objects.{whole, words}
 use Rattle.table.proofs.Seek.{seekF, seek-forest}
-
--- no word of a level or a binding is 0
-abbrev pub AllPos : List ℕ → Type 0
-AllPos [] = Unit {0}
-AllPos (x ∷ xs) = (0 < x) × AllPos xs
-
-pos-append : (xs ys : List ℕ) → AllPos xs → AllPos ys → AllPos (xs ++ ys)
-pos-append [] ys h k = k
-pos-append (x ∷ xs) ys h k = (h .0, pos-append xs ys (h .1) k)
-
-pos-at : (xs : List ℕ) (i : ℕ) → AllPos xs → i < length xs → 0 < getD xs i 0
-pos-at [] i h l = absurd (not-suc-le-zero l)
-pos-at (x ∷ xs) zero h l = h .0
-pos-at (x ∷ xs) (suc i) h l = pos-at xs i (h .1) (le-of-suc-le-suc l)
-
-pos-pack : (r t n s : ℕ) → 0 < r → 0 < pack r t n s
-unfolding pack
-pos-pack r t n s h = omega arith
-
-module _ (limit made : ℕ) where
-  pos-flat : (f : Forest) (r lo : ℕ) → Valid limit made r lo f → AllPos (flat r f)
-  unfolding flat
-  pos-flat none r lo v = tt
-  pos-flat (level s t b kids next) r lo v =
-      (pos-pack r t (length b) s (v .0 .ranked), pos-append (flat (suc r) kids) (flat r next) (pos-flat kids (suc r) 0 (v .1)) (pos-flat next r (suc s) (v .2)))
-
-  pos-binds : (lo : ℕ) (b : List Binding) → rising made lo b ≡ true → AllPos (map bindWord b)
-  unfolding rising
-  pos-binds lo [] h = tt
-  pos-binds lo (x ∷ b) h =
-      let a = both (leb lo (x .segment)) _ h in
-      let c = both (segmentOk (x .segment)) _ (a .1) in
-      let d = both (ltb (x .handle) made) _ (c .1) in
-      (omega (arith, segment-range (x .segment) (c .0)), pos-binds (suc (x .segment)) b (d .1))
-
-  pos-bound : (f : Forest) (r lo : ℕ) → Valid limit made r lo f → AllPos (map bindWord (bound f))
-  unfolding bound
-  pos-bound none r lo v = tt
-  pos-bound (level s t b kids next) r lo v =
-      rw (map-append bindWord b (bound kids ++ bound next), map-append bindWord (bound kids) (bound next))
-      (pos-append (map bindWord b) (map bindWord (bound kids) ++ map bindWord (bound next)) (pos-binds 0 b (v .0 .ordered))
-      (pos-append (map bindWord (bound kids)) (map bindWord (bound next)) (pos-bound kids (suc r) 0 (v .1)) (pos-bound next r (suc s) (v .2))))
+use Rattle.table.proofs.Moves.{AllPos, pos-at, pos-flat, pos-bound}
 
 getD-zeros : (n i : ℕ) → getD {A = ℕ} (replicate n 0) i 0 ≡ 0
 getD-zeros zero i = refl
@@ -119,7 +78,7 @@ split-last p h = go (take (length p - 1) p) refl
           long = omega (arith, length-take-le (length p - 1) p (omega arith), ap length e);
         }
 
-module _ (m : Limits) (hm : m .objects ≤ 4294967296) (ws : List ℕ) (ok : wellFormed m ws ≡ true) where
+module _ (m : Limits) (hm : m .objects ≤ 2 ^ 32) (ws : List ℕ) (ok : wellFormed m ws ≡ true) where
   level-words : take (m .levels) ws ≡ pad (m .levels) (flat 1 (decode m ws .levels))
   unfolding levelPart
   level-words = first-is m hm (decode m ws) (whole m hm ws ok) ws (words m hm ws ok)
@@ -133,12 +92,12 @@ module _ (m : Limits) (hm : m .objects ≤ 4294967296) (ws : List ℕ) (ok : wel
   unfolding pad
   seek-held p =
       ap (λ (l : List ℕ). seekIn p l 0 0 0) level-words
-      ∙ seek-forest (m .components) (length (decode m ws .objects)) (decode m ws .levels) 0 p _ 0 0 0 (whole m hm ws ok .forest)
+      ∙ seek-forest (m .components) (isLive (decode m ws)) (decode m ws .levels) 0 p _ 0 0 0 (whole m hm ws ok .forest)
       (below-spare 1 (m .levels - length (flat 1 (decode m ws .levels))) (omega arith))
 
   module _ (z : 0 < m .levels) where
     level-pos : AllPos (flat 1 (decode m ws .levels))
-    level-pos = pos-flat (m .components) (length (decode m ws .objects)) (decode m ws .levels) 1 0 (whole m hm ws ok .forest)
+    level-pos = pos-flat (m .components) (isLive (decode m ws)) (decode m ws .levels) 1 0 (whole m hm ws ok .forest)
 
     pub levels-room : getD (take (m .levels) ws) (m .levels - 1) 0 ≡ 0 → length (flat 1 (decode m ws .levels)) < m .levels
     levels-room e = pad-room (m .levels) (flat 1 (decode m ws .levels)) level-pos (whole m hm ws ok .levels) z (sym (ap (λ (l : List ℕ). getD l (m .levels - 1) 0) level-words) ∙ e)
@@ -149,7 +108,7 @@ module _ (m : Limits) (hm : m .objects ≤ 4294967296) (ws : List ℕ) (ok : wel
 
   module _ (z : 0 < m .bindings) where
     bind-pos : AllPos (map bindWord (bound (decode m ws .levels)))
-    bind-pos = pos-bound (m .components) (length (decode m ws .objects)) (decode m ws .levels) 1 0 (whole m hm ws ok .forest)
+    bind-pos = pos-bound (m .components) (isLive (decode m ws)) (decode m ws .levels) 1 0 (whole m hm ws ok .forest)
 
     short : length (map bindWord (bound (decode m ws .levels))) ≤ m .bindings
     short = rw (length-words (decode m ws .levels)) (whole m hm ws ok .bindings)

@@ -1,6 +1,6 @@
 -- A new level among siblings: one word more among their words, and no binding moves.
 use mathlib.Core.Path.{_≡_, refl, ap, ap₂, sym, _∙_}
-use mathlib.Core.Bool.{Bool, true, false, cond}
+use mathlib.Core.Bool.{Bool, true, false, cond, _||_}
 use mathlib.Core.List.{List, [], _∷_, _++_, append-assoc}
 use Prim.Native.Nat.{ℕ, suc, _+_, _<_, _≤_}
 use native.Mathlib.Omega.{arith}
@@ -15,7 +15,7 @@ use Rattle.table.specs.Edits.{hasLevel, insertLevel}
 use Rattle.table.specs.Inside.{Sought, here, before, missing, gone, push}
 use Rattle.table.proofs.Shape.{LevelFit, Valid, level-tests, tests-level, fit}
 use Rattle.table.proofs.Seek.{after, after-is, seekF, seek-nil}
-use Rattle.table.proofs.Moves.{push-pad}
+use Rattle.table.proofs.Moves.{AllPos, put-pad}
 
 -- what was and what is, one word w apart, which stands at index j where the first stands at k
 pub record PutIn (was is : List ℕ) (w j k : ℕ) : Type 0 where
@@ -47,12 +47,12 @@ put-around was is w j k i pre post h e =
     regroup a b c d = simp append-assoc
 
 -- the code's carry puts the word in
-pub put-words : (was is : List ℕ) (w j m : ℕ) → PutIn was is w j 0
+pub put-words : (was is : List ℕ) (w j m : ℕ) → AllPos was → PutIn was is w j 0
     → take j (was ++ replicate (suc m) 0) ++ push w (drop j (was ++ replicate (suc m) 0)) ≡ is ++ replicate m 0
-put-words was is w j m h =
+put-words was is w j m a h =
     ap (λ (l : List ℕ). take j l ++ push w (drop j l)) whole
     ∙ ap₂ {C = List ℕ} _++_ (take-at (h .pre) (h .post ++ replicate (suc m) 0) j (omega (arith, h .at)))
-    (ap (push w) (drop-at (h .pre) (h .post ++ replicate (suc m) 0) j (omega (arith, h .at))) ∙ push-pad w (h .post) m)
+    (ap (push w) (drop-at (h .pre) (h .post ++ replicate (suc m) 0) j (omega (arith, h .at))) ∙ put-pad w (h .pre) (h .post) m (rw (h .before) at a))
     ∙ sym (append-assoc (h .pre) (w ∷ h .post) (replicate m 0)) ∙ ap (λ (l : List ℕ). l ++ replicate m 0) (sym (h .now))
   where
     whole : was ++ replicate (suc m) 0 ≡ h .pre ++ (h .post ++ replicate (suc m) 0)
@@ -104,39 +104,39 @@ Has (here j) x = x ≡ true
 Has (before j) x = x ≡ false
 Has (missing n) x = ⊥
 
-module _ (limit made : ℕ) where
-  late-has : (f : Forest) (r lo s : ℕ) → Valid limit made r lo f → s < lo → hasLevel s f ≡ false
+module _ (limit : ℕ) (live : ℕ → Bool) where
+  late-has : (f : Forest) (r lo s : ℕ) → Valid limit live r lo f → s < lo → hasLevel s f ≡ false
   unfolding hasLevel
   late-has none r lo s v h = refl
   late-has (level s′ t b kids next) r lo s v h =
       rw (ne-eqb s′ s (λ e. omega (arith, v .0 .rises))) (late-has next r (suc s′) s (v .2) (omega (arith, v .0 .rises)))
 
-  pub has : (f : Forest) (r lo s at k : ℕ) → Valid limit made (suc r) lo f → Has (seekF f (s ∷ []) r at k) (hasLevel s f)
+  pub has : (f : Forest) (r lo s at k : ℕ) → Valid limit live (suc r) lo f → Has (seekF f (s ∷ []) r at k) (hasLevel s f)
   unfolding seekF hasLevel gone
   has none r lo s at k v = refl
   has (level s′ t b kids next) r lo s at k v = go (has next r (suc s′) s at (after kids (suc k)) (v .2)) (eqb s′ s) (ltb s s′) refl
     where
       go : Has (seekF next (s ∷ []) r at (after kids (suc k))) (hasLevel s next) → (x y : Bool) → ltb s s′ ≡ y
-          → Has (cond x (seekF kids [] (suc r) k (suc k)) (cond y (before k) (seekF next (s ∷ []) r at (after kids (suc k))))) (cond x true (hasLevel s next))
+          → Has (cond x (seekF kids [] (suc r) k (suc k)) (cond y (before k) (seekF next (s ∷ []) r at (after kids (suc k))))) (x || hasLevel s next)
       go h true y e = rw (seek-nil kids (suc r) k (suc k)) refl
       go h false true e = late-has next (suc r) (suc s′) s (v .2) (omega (arith, ltb-true s s′ e))
       go h false false e = h
 
   -- siblings with a new level among them are valid
-  lower : (r lo lo′ s t : ℕ) (b : List Binding) → LevelFit limit made r lo s t b → lo′ ≤ s → LevelFit limit made r lo′ s t b
+  lower : (r lo lo′ s t : ℕ) (b : List Binding) → LevelFit limit live r lo s t b → lo′ ≤ s → LevelFit limit live r lo′ s t b
   lower r lo lo′ s t b h l =
       let k = level-tests limit r lo s t (length b) (h .ok) in
-      fit limit made r lo′ s t b
+      fit limit live r lo′ s t b
       (tests-level limit r lo′ s t (length b) (record { ranked = k .ranked; shallow = k .shallow; rises = l; named = k .named; counted = k .counted })) (h .ordered)
 
-  pub weaker : (f : Forest) (r lo lo′ : ℕ) → lo′ ≤ lo → Valid limit made r lo f → Valid limit made r lo′ f
+  pub weaker : (f : Forest) (r lo lo′ : ℕ) → lo′ ≤ lo → Valid limit live r lo f → Valid limit live r lo′ f
   weaker none r lo lo′ h v = tt
   weaker (level s t b kids next) r lo lo′ h v = (lower r lo lo′ s t b (v .0) (omega (arith, v .0 .rises)), v .1, v .2)
 
   module _ (s typ r : ℕ) (hr : 1 < suc r) (hl : suc r ≤ limit) (hs : segmentOk s ≡ true) (ht : typ < 6) where
-    new-fit : (lo : ℕ) → lo ≤ s → LevelFit limit made (suc r) lo s typ []
+    new-fit : (lo : ℕ) → lo ≤ s → LevelFit limit live (suc r) lo s typ []
     new-fit lo h =
-        fit limit made (suc r) lo s typ []
+        fit limit live (suc r) lo s typ []
         (tests-level limit (suc r) lo s typ 0
         (record { ranked = omega arith; shallow = hl; rises = h; named = rw (ne-eqb (suc r) 1 (λ e. omega arith), hs) (lt-ltb typ 6 ht); counted = none-fit (ltb (suc r) limit) }))
         (unfold rising in refl)
@@ -145,15 +145,15 @@ module _ (limit made : ℕ) where
         none-fit true = refl
         none-fit false = refl
 
-    pub insert-valid : (f : Forest) (lo at k j : ℕ) → lo ≤ s → Valid limit made (suc r) lo f → seekF f (s ∷ []) r at k ≡ before j → Valid limit made (suc r) lo (insertLevel s typ f)
+    pub insert-valid : (f : Forest) (lo at k j : ℕ) → lo ≤ s → Valid limit live (suc r) lo f → seekF f (s ∷ []) r at k ≡ before j → Valid limit live (suc r) lo (insertLevel s typ f)
     unfolding seekF insertLevel gone
     insert-valid none lo at k j h v e = (new-fit lo h, tt, tt)
     insert-valid (level s′ t b kids next) lo at k j h v e =
         go (λ d. insert-valid next (suc s′) at (after kids (suc k)) j d (v .2)) (eqb s′ s) (ltb s s′) refl refl e
       where
-        go : (suc s′ ≤ s → seekF next (s ∷ []) r at (after kids (suc k)) ≡ before j → Valid limit made (suc r) (suc s′) (insertLevel s typ next))
+        go : (suc s′ ≤ s → seekF next (s ∷ []) r at (after kids (suc k)) ≡ before j → Valid limit live (suc r) (suc s′) (insertLevel s typ next))
             → (x y : Bool) → eqb s′ s ≡ x → ltb s s′ ≡ y → cond x (seekF kids [] (suc r) k (suc k)) (cond y (before k) (seekF next (s ∷ []) r at (after kids (suc k)))) ≡ before j
-            → Valid limit made (suc r) lo (cond y (level s typ [] none (level s′ t b kids next)) (level s′ t b kids (insertLevel s typ next)))
+            → Valid limit live (suc r) lo (cond y (level s typ [] none (level s′ t b kids next)) (level s′ t b kids (insertLevel s typ next)))
         go i true y p q e = not-before (sym (seek-nil kids (suc r) k (suc k)) ∙ e)
         go i false true p q e = (new-fit lo h, tt, (lower (suc r) lo (suc s) s′ t b (v .0) (ltb-true s s′ q), v .1, v .2))
         go i false false p q e = (v .0, v .1, i (omega (arith, ltb-false s s′ q, eqb-false s′ s p)) e)

@@ -4,16 +4,16 @@ use mathlib.Core.Path.{_≡_, refl, ap, sym, subst, _∙_}
 use mathlib.Core.Bool.{Bool, true, false, cond}
 use mathlib.Core.Logic.{_↔_}
 use mathlib.Core.List.{List, [], _∷_, _++_, map}
-use Prim.Native.Nat.{ℕ, zero, suc, _+_, _-_, _<_, _≤_}
+use Prim.Native.Nat.{ℕ, zero, suc, _+_, _-_, _<_, _≤_, _^_}
 use native.Mathlib.Omega.{arith}
 use lib.Dec.{leb, ltb, eqb}
 use lib.ListN.{length, take, set, replicate, length-append, length-set}
 use lib.Seq.{length-take-le}
-use borrow.Author.Tests.{le-leb, lt-leb, leb-true, leb-false, ltb-true, ltb-false}
+use borrow.Author.Tests.{le-leb, lt-leb, leb-true, leb-false, ltb-true, ltb-false, lt-ltb}
 use Rattle.pkg_length.specs.Refusal.{Answer, gives, refuses, andThen}
 use Rattle.name_object.specs.Component.{Component}
 use Rattle.table.specs.Limits.{Limits}
-use Rattle.table.specs.Tree.{Binding, Forest, none, level, Tree, Level, bound}
+use Rattle.table.specs.Tree.{Binding, Forest, none, level, Tree, Level, bound, isLive}
 use Rattle.table.specs.Layout.{flat, encode, bindWord}
 use Rattle.table.specs.Valid.{segmentOk, some, valid}
 use Rattle.table.specs.Memory.{wellFormed, means, Edited, left, freshTree}
@@ -43,19 +43,19 @@ no-gift e = absurd (let z : _≡_ {A = ℕ} 0 1 = cc in omega arith)
 -- Memory.
 
 -- well-formed memory means exactly one tree
-pub memory-means-one-tree : (m : Limits) (ws : List ℕ) (t u : Tree) → m .objects ≤ 4294967296 → valid m t ≡ true → valid m u ≡ true → ws ≡ encode m t → ws ≡ encode m u → t ≡ u
+pub memory-means-one-tree : (m : Limits) (ws : List ℕ) (t u : Tree) → m .objects ≤ 2 ^ 32 → valid m t ≡ true → valid m u ≡ true → ws ≡ encode m t → ws ≡ encode m u → t ≡ u
 memory-means-one-tree = one-tree
 
 -- words mean a tree exactly when they are what that valid tree is written as
-pub means-is-written : (m : Limits) (ws : List ℕ) (t : Tree) → m .objects ≤ 4294967296 → (means m ws ≡ gives t) ↔ ((valid m t ≡ true) × (ws ≡ encode m t))
+pub means-is-written : (m : Limits) (ws : List ℕ) (t : Tree) → m .objects ≤ 2 ^ 32 → (means m ws ≡ gives t) ↔ ((valid m t ≡ true) × (ws ≡ encode m t))
 means-is-written m ws t hm = ((λ h. means-whole m ws t h), (λ h. ap (means m) (h .1) ∙ means-encode m t hm (h .0)))
 
 -- a fresh table is well-formed
-pub fresh-is-well-formed : (m : Limits) → m .objects ≤ 4294967296 → 0 < m .levels → 0 < m .components → wellFormed m (encode m freshTree) ≡ true
+pub fresh-is-well-formed : (m : Limits) → m .objects ≤ 2 ^ 32 → 0 < m .levels → 0 < m .components → wellFormed m (encode m freshTree) ≡ true
 fresh-is-well-formed m hm h k = encode-formed m hm freshTree (valid-whole m freshTree (fresh-valid m h k))
 
 -- whatever an edit leaves is well-formed, where the tree that it gives is valid; a refusal leaves the words as they were
-pub left-is-well-formed : {A : Type 0} (m : Limits) (hm : m .objects ≤ 4294967296) (ws : List ℕ) (a : Answer (Edited A)) → wellFormed m ws ≡ true
+pub left-is-well-formed : {A : Type 0} (m : Limits) (hm : m .objects ≤ 2 ^ 32) (ws : List ℕ) (a : Answer (Edited A)) → wellFormed m ws ≡ true
     → ((e : Edited A) → a ≡ gives e → Whole m (e .tree)) → wellFormed m (left m ws a .words) ≡ true
 left-is-well-formed m hm ws (gives e) ok h = encode-formed m hm (e .tree) (h e refl)
 left-is-well-formed m hm ws (refuses n p) ok h = ok
@@ -118,7 +118,7 @@ alter-some g h (level s′ t b kids next) (x ∷ y ∷ p) k = go (eqb s′ x)
     go true = refl
     go false = refl
 
-module _ (m : Limits) (t u : Tree) (p : List ℕ) (h : ℕ) (w : Whole m t) (g : GoodKeys (m .components) p) (live : h < length (t .objects)) (cap : m .bindings < 1024) (hm : m .objects ≤ 4294967296) (e : bind m t p h ≡ gives u) where
+module _ (m : Limits) (t u : Tree) (p : List ℕ) (h : ℕ) (w : Whole m t) (g : GoodKeys (m .components) p) (live : isLive t h ≡ true) (cap : m .bindings < 1024) (hm : m .objects ≤ 2 ^ 32) (e : bind m t p h ≡ gives u) where
   more : 1 < length p
   more = go (leb (length p) 1) refl
     where
@@ -138,19 +138,19 @@ module _ (m : Limits) (t u : Tree) (p : List ℕ) (h : ℕ) (w : Whole m t) (g :
   o : Split p
   o = split-last p more
 
-  spot : (k : ℕ) × Focus (m .components) (length (t .objects)) (t .levels) 0 0 (scopeOf p) 0 k 0
-  spot = go (seekF (t .levels) (o .first ∷ o .middle) 0 0 0) refl (lacks (m .components) (length (t .objects)) (t .levels) 0 0 (o .first) (o .middle) 0 0 (w .forest))
+  spot : (k : ℕ) × Focus (m .components) (isLive t) (t .levels) 0 0 (scopeOf p) 0 k 0
+  spot = go (seekF (t .levels) (o .first ∷ o .middle) 0 0 0) refl (lacks (m .components) (isLive t) (t .levels) 0 0 (o .first) (o .middle) 0 0 (w .forest))
     where
-      lost : (n : ℕ) → levelAt 0 (t .levels) (o .first ∷ o .middle) ≡ refuses 15 n → (k : ℕ) × Focus (m .components) (length (t .objects)) (t .levels) 0 0 (scopeOf p) 0 k 0
+      lost : (n : ℕ) → levelAt 0 (t .levels) (o .first ∷ o .middle) ≡ refuses 15 n → (k : ℕ) × Focus (m .components) (isLive t) (t .levels) 0 0 (scopeOf p) 0 k 0
       lost n q = no-gift (sym (opened (refuses 15 n) (ap (levelAt 0 (t .levels)) (o .scope) ∙ q)) ∙ e)
 
       go : (s : Sought) → seekF (t .levels) (o .first ∷ o .middle) 0 0 0 ≡ s → lacking 0 (o .middle) s (levelAt 0 (t .levels) (o .first ∷ o .middle))
-          → (k : ℕ) × Focus (m .components) (length (t .objects)) (t .levels) 0 0 (scopeOf p) 0 k 0
-      go (here k) q l = (k, subst (λ (x : List ℕ). Focus (m .components) (length (t .objects)) (t .levels) 0 0 x 0 k 0) (sym (o .scope)) (focus (m .components) (length (t .objects)) (t .levels) 0 0 (o .first) (o .middle) 0 0 k (w .forest) q))
+          → (k : ℕ) × Focus (m .components) (isLive t) (t .levels) 0 0 (scopeOf p) 0 k 0
+      go (here k) q l = (k, subst (λ (x : List ℕ). Focus (m .components) (isLive t) (t .levels) 0 0 x 0 k 0) (sym (o .scope)) (focus (m .components) (isLive t) (t .levels) 0 0 (o .first) (o .middle) 0 0 k (w .forest) q))
       go (before k) q l = lost _ l
       go (missing n) q l = lost n l
 
-  abbrev f : Focus (m .components) (length (t .objects)) (t .levels) 0 0 (scopeOf p) 0 (spot .0) 0
+  abbrev f : Focus (m .components) (isLive t) (t .levels) 0 0 (scopeOf p) 0 (spot .0) 0
   f = spot .1
 
   abbrev x : Binding
@@ -159,18 +159,18 @@ module _ (m : Limits) (t u : Tree) (p : List ℕ) (h : ℕ) (w : Whole m t) (g :
   abbrev ls : List ℕ
   ls = flat 1 (t .levels) ++ replicate 0 0
 
-  free : (i : ℕ) × FreeAt (lastOf p) (length (t .objects)) 0 (record { segment = lastOf p; handle = h }) (f .b) (counts (take (spot .0) ls)) i
+  free : (i : ℕ) × FreeAt (lastOf p) (isLive t) 0 (record { segment = lastOf p; handle = h }) (f .b) (counts (take (spot .0) ls)) i
   free = go (slotIn (lastOf p) (f .b) (counts (take (spot .0) ls))) refl
     where
       taken : isBound (lastOf p) (f .b) ≡ true → bind m t p h ≡ refuses 17 0
-      taken q = opened (gives (record { bindings = f .b; children = f .kids })) (f .found) ∙ rw q
+      taken q = opened (gives (record { segment = f .seg; typ = f .typ; bindings = f .b; children = f .kids })) (f .found) ∙ rw q
 
-      go : (s : Slot) → slotIn (lastOf p) (f .b) (counts (take (spot .0) ls)) ≡ s → (i : ℕ) × FreeAt (lastOf p) (length (t .objects)) 0 (record { segment = lastOf p; handle = h }) (f .b) (counts (take (spot .0) ls)) i
+      go : (s : Slot) → slotIn (lastOf p) (f .b) (counts (take (spot .0) ls)) ≡ s → (i : ℕ) × FreeAt (lastOf p) (isLive t) 0 (record { segment = lastOf p; handle = h }) (f .b) (counts (take (spot .0) ls)) i
       go (Slot.Bound k) q = no-gift (sym (taken (slot-bound (lastOf p) (f .b) (counts (take (spot .0) ls)) k q .1)) ∙ e)
-      go (Slot.Free i) q = (i, slot-free (lastOf p) (length (t .objects)) 0 x (f .b) (counts (take (spot .0) ls)) i refl (f .valid .0 .ordered) q)
+      go (Slot.Free i) q = (i, slot-free (lastOf p) (isLive t) 0 x (f .b) (counts (take (spot .0) ls)) i refl (f .valid .0 .ordered) q)
 
   full : bind m t p h ≡ cond (leb (m .bindings) (length (bound (t .levels)))) (refuses 19 0) (gives (withLevels t (alter (withBinding x) (t .levels) (scopeOf p))))
-  full = opened (gives (record { bindings = f .b; children = f .kids })) (f .found) ∙ rw (free .1 .clear)
+  full = opened (gives (record { segment = f .seg; typ = f .typ; bindings = f .b; children = f .kids })) (f .found) ∙ rw (free .1 .clear)
 
   room : length (bound (t .levels)) < m .bindings
   room = go (leb (m .bindings) (length (bound (t .levels)))) refl
@@ -198,7 +198,7 @@ module _ (m : Limits) (t u : Tree) (p : List ℕ) (h : ℕ) (w : Whole m t) (g :
       subst (Whole m) tree-is
       (record {
         rooted = alter-some (withBinding x) (λ s u b k n. refl) (t .levels) (scopeOf p) (w .rooted);
-        forest = bound-valid m t w (omega (arith, w .objects, hm)) ls (map bindWord (bound (t .levels)) ++ replicate 0 0) 0 0 refl refl (scopeOf p) (spot .0) f (lastOf p) x (free .0) (free .1)
+        forest = bound-valid m t w hm ls (map bindWord (bound (t .levels)) ++ replicate 0 0) 0 0 refl refl (scopeOf p) (spot .0) f (lastOf p) x (free .0) (free .1)
             (g .named more) live deep-enough room cap;
         levels = rw (same-count m t w (omega (arith, hm)) ls (map bindWord (bound (t .levels)) ++ replicate 0 0) 0 0 refl refl (scopeOf p) (spot .0) f (lastOf p) x (free .0) (free .1)) (w .levels);
         bindings = rw (one-bound m t w (omega (arith, hm)) ls (map bindWord (bound (t .levels)) ++ replicate 0 0) 0 0 refl refl (scopeOf p) (spot .0) f (lastOf p) x (free .0) (free .1)) room;
@@ -206,15 +206,15 @@ module _ (m : Limits) (t u : Tree) (p : List ℕ) (h : ℕ) (w : Whole m t) (g :
       })
 
 -- more handles are no harm
-valid-more : (limit made made′ r lo : ℕ) (f : Forest) → made ≤ made′ → Valid limit made r lo f → Valid limit made′ r lo f
-valid-more limit made made′ r lo none h v = tt
-valid-more limit made made′ r lo (level s t b kids next) h v =
-    (fit limit made′ r lo s t b (v .0 .ok) (rising-more made made′ 0 b h (v .0 .ordered)), valid-more limit made made′ (suc r) 0 kids h (v .1), valid-more limit made made′ r (suc s) next h (v .2))
+valid-more : (limit : ℕ) (live more : ℕ → Bool) (r lo : ℕ) (f : Forest) → ((h : ℕ) → live h ≡ true → more h ≡ true) → Valid limit live r lo f → Valid limit more r lo f
+valid-more limit live more r lo none h v = tt
+valid-more limit live more r lo (level s t b kids next) h v =
+    (fit limit more r lo s t b (v .0 .ok) (rising-more live more 0 b h (v .0 .ordered)), valid-more limit live more (suc r) 0 kids h (v .1), valid-more limit live more r (suc s) next h (v .2))
 
 -- an object more, or another value of one
 pub objects-valid : (m : Limits) (t : Tree) (vs : List ℕ) → Whole m t → length (t .objects) ≤ length vs → length vs ≤ m .objects → Whole m (withObjects t vs)
 objects-valid m t vs w h l =
-    record { rooted = w .rooted; forest = valid-more (m .components) (length (t .objects)) (length vs) 1 0 (t .levels) h (w .forest); levels = w .levels; bindings = w .bindings; objects = l }
+    record { rooted = w .rooted; forest = valid-more (m .components) (isLive t) (isLive (withObjects t vs)) 1 0 (t .levels) (λ k e. lt-ltb k (length vs) (omega (arith, ltb-true k (length (t .objects)) e))) (w .forest); levels = w .levels; bindings = w .bindings; objects = l }
 
 pub set-value-valid : (m : Limits) (t u : Tree) (h v : ℕ) → Whole m t → setValue t h v ≡ gives u → Whole m u
 unfolding setValue
@@ -226,20 +226,20 @@ set-value-valid m t u h v w e = go (ltb h (length (t .objects))) refl e
     go false q e = no-gift e
 
 -- what a path is bound to was handed out
-pub look-up-live : (m : Limits) (t : Tree) (p : List ℕ) (h : ℕ) → Whole m t → lookUp t p ≡ gives h → h < length (t .objects)
+pub look-up-live : (m : Limits) (t : Tree) (p : List ℕ) (h : ℕ) → Whole m t → lookUp t p ≡ gives h → isLive t h ≡ true
 unfolding lookUp
 look-up-live m t p h w e = go (leb (length p) 1) e
   where
-    found : (a : Answer Level) → levelAt 0 (t .levels) (scopeOf p) ≡ a → andThen a (λ l. Rattle.table.specs.Edits.handleIn (lastOf p) (l .bindings)) ≡ gives h → h < length (t .objects)
+    found : (a : Answer Level) → levelAt 0 (t .levels) (scopeOf p) ≡ a → andThen a (λ l. Rattle.table.specs.Edits.handleIn (lastOf p) (l .bindings)) ≡ gives h → isLive t h ≡ true
     found (gives l) q e =
-        handle-live (length (t .objects)) 0 (lastOf p) h (l .bindings) (level-ordered (m .components) (length (t .objects)) (t .levels) 1 0 0 (scopeOf p) l (w .forest) q) e
+        handle-live (isLive t) 0 (lastOf p) h (l .bindings) (level-ordered (m .components) (isLive t) (t .levels) 1 0 0 (scopeOf p) l (w .forest) q) e
     found (refuses a b) q e = no-gift e
 
-    go : (x : Bool) → cond x (refuses 13 0) (andThen (levelAt 0 (t .levels) (scopeOf p)) (λ l. Rattle.table.specs.Edits.handleIn (lastOf p) (l .bindings))) ≡ gives h → h < length (t .objects)
+    go : (x : Bool) → cond x (refuses 13 0) (andThen (levelAt 0 (t .levels) (scopeOf p)) (λ l. Rattle.table.specs.Edits.handleIn (lastOf p) (l .bindings))) ≡ gives h → isLive t h ≡ true
     go true e = no-gift e
     go false e = found (levelAt 0 (t .levels) (scopeOf p)) refl e
 
-module _ (m : Limits) (t : Tree) (w : Whole m t) (cap : m .bindings < 1024) (hm : m .objects ≤ 4294967296) where
+module _ (m : Limits) (t : Tree) (w : Whole m t) (cap : m .bindings < 1024) (hm : m .objects ≤ 2 ^ 32) where
   pub add-alias-valid : (p q : List ℕ) (e : Edited ℕ) → GoodKeys (m .components) p → addAlias m t p q ≡ gives e → Whole m (e .tree)
   unfolding addAlias
   add-alias-valid p q e g d = aim (lookUp t q) refl d
@@ -292,7 +292,7 @@ module _ (m : Limits) (t : Tree) (w : Whole m t) (cap : m .bindings < 1024) (hm 
           subst (Whole m) (ap (λ (y : Edited ℕ). y .tree) (gives-same d))
           (bind-valid m (withObjects t (t .objects ++ (v ∷ []))) (withObjects u (t .objects ++ (v ∷ []))) p (nextHandle t)
           (objects-valid m t (t .objects ++ (v ∷ [])) w (omega (arith, long)) (omega (arith, long, leb-false (m .objects) (length (t .objects)) q)))
-          g (omega (arith, long)) cap hm (bind-same p (nextHandle t) (t .objects ++ (v ∷ [])) u b))
+          g (lt-ltb (nextHandle t) (length (t .objects ++ (v ∷ []))) (omega (arith, long))) cap hm (bind-same p (nextHandle t) (t .objects ++ (v ∷ [])) u b))
 
       tied : (a : Answer Tree) → bind m t p (nextHandle t) ≡ a
           → andThen a (λ u. cond (leb (m .objects) (length (t .objects))) (refuses 20 0) (gives (record { tree = withObjects u (t .objects ++ (v ∷ [])); value = nextHandle t }))) ≡ gives e → Whole m (e .tree)

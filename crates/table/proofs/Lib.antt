@@ -1,5 +1,7 @@
-pub mod Words
+pub mod Facts
+pub mod Numbers
 pub mod Shape
+pub mod Words
 pub mod Decode
 pub mod Scan
 pub mod Sound
@@ -26,3 +28,4 @@ pub mod Near
 pub mod NearWords
 pub mod NearLevels
 pub mod Laws
+pub mod Frames

@@ -1,25 +1,25 @@
 -- Well-formed memory means exactly one tree: the one that it is written from.
 use mathlib.Core.Path.{_≡_, refl, ap, ap₂, sym, _∙_}
-use mathlib.Core.Bool.{Bool, true, false, cond}
+use mathlib.Core.Bool.{Bool, true, false, cond, _&&_}
 use mathlib.Core.List.{List, [], _∷_, _++_, map, map-append}
-use Prim.Native.Nat.{ℕ, suc, _+_, _-_, _≤_}
+use Prim.Native.Nat.{ℕ, suc, _+_, _-_, _≤_, _^_}
 use native.Mathlib.Omega.{arith}
 use lib.Dec.{eqb}
 use lib.ListN.{length, take, drop, getD, replicate, length-append, length-drop, take-append-drop}
 use lib.Seq.{take-at, drop-at, getD-drop, length-take-le, drop-drop}
 use borrow.Author.Tests.{eq-eqb, eqb-true}
 use Rattle.pkg_length.specs.Refusal.{gives, refuses}
-use Rattle.name_object.proofs.Paths.{both}
+use Rattle.table.proofs.Facts.{both}
 use Rattle.table.specs.Limits.{Limits}
-use Rattle.table.specs.Tree.{Forest, none, level, Tree, bound}
+use Rattle.table.specs.Tree.{Forest, none, level, Tree, bound, isLive}
 use Rattle.table.specs.Layout.{bindWord, bindingOf, flat, pad, encode}
 use Rattle.table.specs.Valid.{valid}
 use Rattle.table.specs.Memory.{siblings, decode, same, wellFormed, means, size}
 use Rattle.table.specs.Inside.{partsOk}
 use Rattle.table.proofs.Words.{bindings-back}
-use Rattle.table.proofs.Shape.{clash, Valid}
+use Rattle.table.proofs.Shape.{clash, Small, Valid}
 use Rattle.table.proofs.Decode.{siblings-flat, below-spare}
-use Rattle.table.proofs.Whole.{Whole, valid-whole, whole-valid, Held, length-pad, length-words, parts-held, held-parts}
+use Rattle.table.proofs.Whole.{Whole, valid-whole, whole-valid, Held, length-pad, length-words, parts-held, held-parts, small-handles}
 
 pub same-refl : (xs : List ℕ) → same xs xs ≡ true
 unfolding same
@@ -57,24 +57,24 @@ module _ (A B C ws : List ℕ) (a b : ℕ) (e : ws ≡ A ++ (B ++ C)) (ha : leng
   pub part-third : drop (a + b) ws ≡ C
   part-third = sym (drop-drop b a ws) ∙ rw rest-first (drop-at B C b hb)
 
-bound-back : (limit made r lo : ℕ) (f : Forest) → made ≤ 4294967296 → Valid limit made r lo f → map bindingOf (map bindWord (bound f)) ≡ bound f
+bound-back : (limit : ℕ) (live : ℕ → Bool) (r lo : ℕ) (f : Forest) → Small live → Valid limit live r lo f → map bindingOf (map bindWord (bound f)) ≡ bound f
 unfolding bound
-bound-back limit made r lo none h v = refl
-bound-back limit made r lo (level s t b kids next) h v =
+bound-back limit live r lo none h v = refl
+bound-back limit live r lo (level s t b kids next) h v =
     rw (
       map-append bindWord b (bound kids ++ bound next),
       map-append bindWord (bound kids) (bound next),
       map-append bindingOf (map bindWord b) (map bindWord (bound kids) ++ map bindWord (bound next)),
       map-append bindingOf (map bindWord (bound kids)) (map bindWord (bound next)),
-      bindings-back made 0 b h (v .0 .ordered),
-      bound-back limit made (suc r) 0 kids h (v .1),
-      bound-back limit made r (suc s) next h (v .2),
+      bindings-back live 0 b h (v .0 .ordered),
+      bound-back limit live (suc r) 0 kids h (v .1),
+      bound-back limit live r (suc s) next h (v .2),
     )
 
 same-tree : {f g : Forest} {vs us : List ℕ} → f ≡ g → vs ≡ us → _≡_ {A = Tree} (record { levels = f; objects = vs }) (record { levels = g; objects = us })
 same-tree e d = λ i. record { levels = e i; objects = d i }
 
-module _ (m : Limits) (hm : m .objects ≤ 4294967296) (t : Tree) (w : Whole m t) where
+module _ (m : Limits) (hm : m .objects ≤ 2 ^ 32) (t : Tree) (w : Whole m t) where
   pub length-levels : length (levelPart m t) ≡ m .levels
   unfolding levelPart
   length-levels = length-pad (m .levels) (flat 1 (t .levels)) (w .levels)
@@ -101,9 +101,9 @@ module _ (m : Limits) (hm : m .objects ≤ 4294967296) (t : Tree) (w : Whole m t
   levels-back =
       rw (
         map-append bindingOf (map bindWord (bound (t .levels))) (replicate (m .bindings - length (map bindWord (bound (t .levels)))) 0),
-        bound-back (m .components) (length (t .objects)) 1 0 (t .levels) (omega (arith, w .objects)) (w .forest),
+        bound-back (m .components) (isLive t) 1 0 (t .levels) (small-handles m t w hm) (w .forest),
       )
-      (siblings-flat (m .components) (length (t .objects)) 1 0 (t .levels) _ _ (w .forest) (below-spare 1 (m .levels - length (flat 1 (t .levels))) (omega arith)))
+      (siblings-flat (m .components) (isLive t) 1 0 (t .levels) _ _ (w .forest) (below-spare 1 (m .levels - length (flat 1 (t .levels))) (omega arith)))
 
   objects-back : take (getD (objectPart m t) 0 0) (drop 1 (objectPart m t)) ≡ t .objects
   unfolding objectPart pad
@@ -152,7 +152,7 @@ module _ (m : Limits) (hm : m .objects ≤ 4294967296) (t : Tree) (w : Whole m t
   encode-formed = rw (decode-encode, whole-valid m t w) (same-refl (encode m t))
 
 -- a valid tree's words mean that tree
-pub means-encode : (m : Limits) (t : Tree) → m .objects ≤ 4294967296 → valid m t ≡ true → means m (encode m t) ≡ gives t
+pub means-encode : (m : Limits) (t : Tree) → m .objects ≤ 2 ^ 32 → valid m t ≡ true → means m (encode m t) ≡ gives t
 unfolding means
 means-encode m t hm v = let w = valid-whole m t v in rw (encode-formed m hm t w, decode-encode m hm t w)
 
@@ -172,7 +172,7 @@ means-whole m ws t h = go (wellFormed m ws) refl h
     go false e k = absurd (let z : _≡_ {A = ℕ} 0 1 = cc in omega arith)
 
 -- well-formed memory means exactly one tree
-pub one-tree : (m : Limits) (ws : List ℕ) (t u : Tree) → m .objects ≤ 4294967296 → valid m t ≡ true → valid m u ≡ true → ws ≡ encode m t → ws ≡ encode m u → t ≡ u
+pub one-tree : (m : Limits) (ws : List ℕ) (t u : Tree) → m .objects ≤ 2 ^ 32 → valid m t ≡ true → valid m u ≡ true → ws ≡ encode m t → ws ≡ encode m u → t ≡ u
 one-tree m ws t u hm v w e d =
     let a = means-encode m t hm v in
     let b = means-encode m u hm w in
@@ -180,7 +180,7 @@ one-tree m ws t u hm v w e d =
     cc
 
 -- the test in one pass, part by part
-module _ (m : Limits) (hm : m .objects ≤ 4294967296) (ws : List ℕ) where
+module _ (m : Limits) (hm : m .objects ≤ 2 ^ 32) (ws : List ℕ) where
   test : Bool
   test = partsOk m (take (m .levels) ws) (take (m .bindings) (drop (m .levels) ws)) (drop (m .levels + m .bindings) ws)
 
@@ -211,11 +211,11 @@ module _ (m : Limits) (hm : m .objects ≤ 4294967296) (ws : List ℕ) where
       let w = valid-whole m (decode m ws) (x .0) in
       (ap length (x .1) ∙ encode-length m hm (decode m ws) w, held-parts m (decode m ws) _ _ _ hm (held-words m hm (decode m ws) w ws (x .1)))
 
-  pub formed-test : wellFormed m ws ≡ cond (eqb (length ws) (size m)) (partsOk m (take (m .levels) ws) (take (m .bindings) (drop (m .levels) ws)) (drop (m .levels + m .bindings) ws)) false
+  pub formed-test : wellFormed m ws ≡ (eqb (length ws) (size m) && partsOk m (take (m .levels) ws) (take (m .bindings) (drop (m .levels) ws)) (drop (m .levels + m .bindings) ws))
   unfolding test
   formed-test = go (eqb (length ws) (size m)) test (wellFormed m ws) refl refl refl
     where
-      go : (x y z : Bool) → eqb (length ws) (size m) ≡ x → test ≡ y → wellFormed m ws ≡ z → z ≡ cond x y false
+      go : (x y z : Bool) → eqb (length ws) (size m) ≡ x → test ≡ y → wellFormed m ws ≡ z → z ≡ (x && y)
       go true true true a b c = refl
       go true true false a b c = sym c ∙ passes-formed (eqb-true _ _ a) b
       go true false true a b c = sym (formed-passes c .1) ∙ b

@@ -11,13 +11,12 @@ use borrow.Author.Tests.{lt-leb, le-ltb, ltb-true, ltb-false, eqb-true}
 use Rattle.pkg_length.specs.Refusal.{Answer, gives, refuses, andThen}
 use Rattle.name_object.specs.Component.{Component}
 use Rattle.table.specs.Limits.{Limits}
-use Rattle.table.specs.Tree.{Binding, Forest, none, level, Tree, Level, key, keys}
+use Rattle.table.specs.Tree.{Binding, Forest, none, level, Tree, Level, key, keys, isLive}
 use Rattle.table.specs.Valid.{rising, countOk}
 use Rattle.table.specs.Edits.{levelAt, scopeOf, lastOf, handleIn, lookUp}
 use Rattle.table.specs.Search.{Found, orOn, outward, valueIn}
-use Rattle.table.proofs.Shape.{Valid, level-tests}
+use Rattle.table.proofs.Shape.{Valid, level-tests, binding-tests}
 use Rattle.table.proofs.Whole.{Whole}
-use Rattle.table.proofs.Slots.{binding-tests}
 
 pub length-keys : (cs : List Component) → length (keys cs) ≡ length cs
 unfolding keys
@@ -39,7 +38,7 @@ unfoldable pub nearF : {A : Type 0} → (Level → Answer A) → Forest → List
 nearF ask none p r out = out
 nearF ask (level s′ t b kids next) [] r out = out
 nearF ask (level s′ t b kids next) (x ∷ p) r out =
-    cond (eqb s′ x) (nearF ask kids p (suc r) (closer (suc r) (ask (record { bindings = b; children = kids })) out)) (nearF ask next (x ∷ p) r out)
+    cond (eqb s′ x) (nearF ask kids p (suc r) (closer (suc r) (ask (record { segment = s′; typ = t; bindings = b; children = kids })) out)) (nearF ask next (x ∷ p) r out)
 
 -- the innermost of the first n scopes that answers
 unfoldable pub best : {A : Type 0} → (Level → Answer A) → Forest → List ℕ → ℕ → Answer (Deep A) → ℕ → Answer (Deep A)
@@ -54,9 +53,9 @@ module _ {A : Type 0} (ask : Level → Answer A) where
 
   module _ (s′ t : ℕ) (b : List Binding) (kids next : Forest) (x : ℕ) where
     best-match : (p : List ℕ) (r : ℕ) (out : Answer (Deep A)) (n : ℕ) → eqb s′ x ≡ true → n ≤ length p
-        → best ask (level s′ t b kids next) (x ∷ p) r out (suc n) ≡ best ask kids p (suc r) (closer (suc r) (ask (record { bindings = b; children = kids })) out) n
+        → best ask (level s′ t b kids next) (x ∷ p) r out (suc n) ≡ best ask kids p (suc r) (closer (suc r) (ask (record { segment = s′; typ = t; bindings = b; children = kids })) out) n
     unfolding best levelAt
-    best-match p r out zero e l = rw e (ap (λ (k : ℕ). closer k (ask (record { bindings = b; children = kids })) out) (one r))
+    best-match p r out zero e l = rw e (ap (λ (k : ℕ). closer k (ask (record { segment = s′; typ = t; bindings = b; children = kids })) out) (one r))
       where
         one : (r : ℕ) → r + 1 ≡ suc r
         one r = omega arith
@@ -84,12 +83,12 @@ module _ {A : Type 0} (ask : Level → Answer A) where
   near-best none p r out = sym (best-none p r out (length p))
   near-best (level s′ t b kids next) [] r out = unfold best in refl
   near-best (level s′ t b kids next) (x ∷ p) r out =
-      go (eqb s′ x) refl (near-best kids p (suc r) (closer (suc r) (ask (record { bindings = b; children = kids })) out)) (near-best next (x ∷ p) r out)
+      go (eqb s′ x) refl (near-best kids p (suc r) (closer (suc r) (ask (record { segment = s′; typ = t; bindings = b; children = kids })) out)) (near-best next (x ∷ p) r out)
     where
       go : (e : Bool) → eqb s′ x ≡ e
-          → nearF ask kids p (suc r) (closer (suc r) (ask (record { bindings = b; children = kids })) out) ≡ best ask kids p (suc r) (closer (suc r) (ask (record { bindings = b; children = kids })) out) (length p)
+          → nearF ask kids p (suc r) (closer (suc r) (ask (record { segment = s′; typ = t; bindings = b; children = kids })) out) ≡ best ask kids p (suc r) (closer (suc r) (ask (record { segment = s′; typ = t; bindings = b; children = kids })) out) (length p)
           → nearF ask next (x ∷ p) r out ≡ best ask next (x ∷ p) r out (suc (length p))
-          → cond e (nearF ask kids p (suc r) (closer (suc r) (ask (record { bindings = b; children = kids })) out)) (nearF ask next (x ∷ p) r out) ≡ best ask (level s′ t b kids next) (x ∷ p) r out (suc (length p))
+          → cond e (nearF ask kids p (suc r) (closer (suc r) (ask (record { segment = s′; typ = t; bindings = b; children = kids })) out)) (nearF ask next (x ∷ p) r out) ≡ best ask (level s′ t b kids next) (x ∷ p) r out (suc (length p))
       go true e i l = i ∙ sym (best-match s′ t b kids next x p r out (length p) e (omega arith))
       go false e i l = l ∙ sym (best-skip s′ t b kids next x p r out (suc (length p)) e)
 
@@ -195,8 +194,8 @@ keys-take (suc n) [] = refl
 keys-take (suc n) (c ∷ cs) = ap (λ (l : List ℕ). key c ∷ l) (keys-take n cs)
 
 -- a level of the deepest rank holds nothing
-module _ (limit made : ℕ) where
-  pub deep-bindings : (f : Forest) (r lo n : ℕ) (p : List ℕ) (l : Level) → Valid limit made (suc r) lo f → levelAt n f p ≡ gives l → r + length p ≡ limit → l .bindings ≡ []
+module _ (limit : ℕ) (live : ℕ → Bool) where
+  pub deep-bindings : (f : Forest) (r lo n : ℕ) (p : List ℕ) (l : Level) → Valid limit live (suc r) lo f → levelAt n f p ≡ gives l → r + length p ≡ limit → l .bindings ≡ []
   unfolding levelAt
   deep-bindings none r lo n p l v e h = absurd (let z : _≡_ {A = ℕ} 0 1 = cc in omega arith)
   deep-bindings (level s′ t b kids next) r lo n [] l v e h = absurd (let z : _≡_ {A = ℕ} 0 1 = cc in omega arith)
@@ -209,9 +208,9 @@ module _ (limit made : ℕ) where
       counted : countOk limit (suc r) (length b) ≡ true → length b ≡ 0
       counted k = eqb-true (length b) 0 (sym (rw (le-ltb (suc r) limit (omega arith))) ∙ k)
 
-      go : (y : Bool) → (levelAt n next (x ∷ []) ≡ gives l → r + 1 ≡ limit → l .bindings ≡ []) → cond y (gives (record { bindings = b; children = kids })) (levelAt n next (x ∷ [])) ≡ gives l → l .bindings ≡ []
+      go : (y : Bool) → (levelAt n next (x ∷ []) ≡ gives l → r + 1 ≡ limit → l .bindings ≡ []) → cond y (gives (record { segment = s′; typ = t; bindings = b; children = kids })) (levelAt n next (x ∷ [])) ≡ gives l → l .bindings ≡ []
       go true i e =
-          let d : record { bindings = b; children = kids } ≡ l = cc in
+          let d : record { segment = s′; typ = t; bindings = b; children = kids } ≡ l = cc in
           sym (ap (λ (m : Level). m .bindings) d) ∙ none-left b (counted (level-tests limit (suc r) lo s′ t (length b) (v .0 .ok) .counted))
       go false i e = i e h
   deep-bindings (level s′ t b kids next) r lo n (x ∷ y ∷ p) l v e h = go (eqb s′ x) (deep-bindings kids (suc r) 0 (suc n) (y ∷ p) l (v .1)) (deep-bindings next r (suc s′) n (x ∷ y ∷ p) l (v .2)) e
@@ -221,18 +220,18 @@ module _ (limit made : ℕ) where
       go true i j e = i e (omega arith)
       go false i j e = j e h
 
-  pub deep-children : (f : Forest) (r lo n : ℕ) (p : List ℕ) (l : Level) → Valid limit made (suc r) lo f → levelAt n f p ≡ gives l → r + length p ≡ limit → l .children ≡ none
+  pub deep-children : (f : Forest) (r lo n : ℕ) (p : List ℕ) (l : Level) → Valid limit live (suc r) lo f → levelAt n f p ≡ gives l → r + length p ≡ limit → l .children ≡ none
   unfolding levelAt
   deep-children none r lo n p l v e h = absurd (let z : _≡_ {A = ℕ} 0 1 = cc in omega arith)
   deep-children (level s′ t b kids next) r lo n [] l v e h = absurd (let z : _≡_ {A = ℕ} 0 1 = cc in omega arith)
   deep-children (level s′ t b kids next) r lo n (x ∷ []) l v e h = go (eqb s′ x) (deep-children next r (suc s′) n (x ∷ []) l (v .2)) e
     where
-      childless : (g : Forest) → Valid limit made (suc (suc r)) 0 g → g ≡ none
+      childless : (g : Forest) → Valid limit live (suc (suc r)) 0 g → g ≡ none
       childless none w = refl
       childless (level s u c ks ne) w = absurd (omega (arith, w .0 .shallow))
 
-      go : (y : Bool) → (levelAt n next (x ∷ []) ≡ gives l → r + 1 ≡ limit → l .children ≡ none) → cond y (gives (record { bindings = b; children = kids })) (levelAt n next (x ∷ [])) ≡ gives l → l .children ≡ none
-      go true i e = let d : record { bindings = b; children = kids } ≡ l = cc in sym (ap (λ (m : Level). m .children) d) ∙ childless kids (v .1)
+      go : (y : Bool) → (levelAt n next (x ∷ []) ≡ gives l → r + 1 ≡ limit → l .children ≡ none) → cond y (gives (record { segment = s′; typ = t; bindings = b; children = kids })) (levelAt n next (x ∷ [])) ≡ gives l → l .children ≡ none
+      go true i e = let d : record { segment = s′; typ = t; bindings = b; children = kids } ≡ l = cc in sym (ap (λ (m : Level). m .children) d) ∙ childless kids (v .1)
       go false i e = i e h
   deep-children (level s′ t b kids next) r lo n (x ∷ y ∷ p) l v e h = go (eqb s′ x) (deep-children kids (suc r) 0 (suc n) (y ∷ p) l (v .1)) (deep-children next r (suc s′) n (x ∷ y ∷ p) l (v .2)) e
     where
@@ -242,33 +241,33 @@ module _ (limit made : ℕ) where
       go false i j e = j e h
 
   -- a level that is there has its bindings in order
-  pub level-ordered : (f : Forest) (r lo n : ℕ) (p : List ℕ) (l : Level) → Valid limit made r lo f → levelAt n f p ≡ gives l → rising made 0 (l .bindings) ≡ true
+  pub level-ordered : (f : Forest) (r lo n : ℕ) (p : List ℕ) (l : Level) → Valid limit live r lo f → levelAt n f p ≡ gives l → rising live 0 (l .bindings) ≡ true
   unfolding levelAt
   level-ordered none r lo n p l v e = absurd (let z : _≡_ {A = ℕ} 0 1 = cc in omega arith)
   level-ordered (level s′ t b kids next) r lo n [] l v e = absurd (let z : _≡_ {A = ℕ} 0 1 = cc in omega arith)
   level-ordered (level s′ t b kids next) r lo n (x ∷ []) l v e = go (eqb s′ x) (level-ordered next r (suc s′) n (x ∷ []) l (v .2)) e
     where
-      go : (y : Bool) → (levelAt n next (x ∷ []) ≡ gives l → rising made 0 (l .bindings) ≡ true) → cond y (gives (record { bindings = b; children = kids })) (levelAt n next (x ∷ [])) ≡ gives l
-          → rising made 0 (l .bindings) ≡ true
-      go true i e = let d : record { bindings = b; children = kids } ≡ l = cc in subst (λ (m : Level). rising made 0 (m .bindings) ≡ true) d (v .0 .ordered)
+      go : (y : Bool) → (levelAt n next (x ∷ []) ≡ gives l → rising live 0 (l .bindings) ≡ true) → cond y (gives (record { segment = s′; typ = t; bindings = b; children = kids })) (levelAt n next (x ∷ [])) ≡ gives l
+          → rising live 0 (l .bindings) ≡ true
+      go true i e = let d : record { segment = s′; typ = t; bindings = b; children = kids } ≡ l = cc in subst (λ (m : Level). rising live 0 (m .bindings) ≡ true) d (v .0 .ordered)
       go false i e = i e
   level-ordered (level s′ t b kids next) r lo n (x ∷ y ∷ p) l v e = go (eqb s′ x) (level-ordered kids (suc r) 0 (suc n) (y ∷ p) l (v .1)) (level-ordered next r (suc s′) n (x ∷ y ∷ p) l (v .2)) e
     where
-      go : (z : Bool) → (levelAt (suc n) kids (y ∷ p) ≡ gives l → rising made 0 (l .bindings) ≡ true) → (levelAt n next (x ∷ y ∷ p) ≡ gives l → rising made 0 (l .bindings) ≡ true)
-          → cond z (levelAt (suc n) kids (y ∷ p)) (levelAt n next (x ∷ y ∷ p)) ≡ gives l → rising made 0 (l .bindings) ≡ true
+      go : (z : Bool) → (levelAt (suc n) kids (y ∷ p) ≡ gives l → rising live 0 (l .bindings) ≡ true) → (levelAt n next (x ∷ y ∷ p) ≡ gives l → rising live 0 (l .bindings) ≡ true)
+          → cond z (levelAt (suc n) kids (y ∷ p)) (levelAt n next (x ∷ y ∷ p)) ≡ gives l → rising live 0 (l .bindings) ≡ true
       go true i j e = i e
       go false i j e = j e
 
 -- what is found was handed out
-pub handle-live : (made lo s h : ℕ) (b : List Binding) → rising made lo b ≡ true → handleIn s b ≡ gives h → h < made
+pub handle-live : (live : ℕ → Bool) (lo s h : ℕ) (b : List Binding) → rising live lo b ≡ true → handleIn s b ≡ gives h → live h ≡ true
 unfolding handleIn
-handle-live made lo s h [] r e = absurd (let z : _≡_ {A = ℕ} 0 1 = cc in omega arith)
-handle-live made lo s h (b ∷ bs) r e =
-    let t = binding-tests made lo b bs r in
-    go (eqb (b .segment) s) (t .live) (handle-live made (suc (b .segment)) s h bs (t .later)) e
+handle-live live lo s h [] r e = absurd (let z : _≡_ {A = ℕ} 0 1 = cc in omega arith)
+handle-live live lo s h (b ∷ bs) r e =
+    let t = binding-tests live lo b bs r in
+    go (eqb (b .segment) s) (t .alive) (handle-live live (suc (b .segment)) s h bs (t .later)) e
   where
-    go : (x : Bool) → b .handle < made → (handleIn s bs ≡ gives h → h < made) → cond x (gives (b .handle)) (handleIn s bs) ≡ gives h → h < made
-    go true l i e = let d : b .handle ≡ h = cc in omega arith
+    go : (x : Bool) → live (b .handle) ≡ true → (handleIn s bs ≡ gives h → live h ≡ true) → cond x (gives (b .handle)) (handleIn s bs) ≡ gives h → live h ≡ true
+    go true l i e = let d : b .handle ≡ h = cc in rw d at l
     go false l i e = i e
 
 -- values: what a scope answers is what its level does
@@ -306,7 +305,7 @@ module _ (m : Limits) (t : Tree) (w : Whole m t) (c : Component) (ns : List Comp
     deepest : m .components ≤ n → (a : Answer Level) → levelAt 0 (t .levels) (take n (keys ns)) ≡ a → Alike (refuses 16 0) (andThen a askValue)
     unfolding handleIn
     deepest d (gives l) e =
-        rw (deep-bindings (m .components) (length (t .objects)) (t .levels) 0 0 0 (take n (keys ns)) l (w .forest) e (omega (arith, front-length))) tt
+        rw (deep-bindings (m .components) (isLive t) (t .levels) 0 0 0 (take n (keys ns)) l (w .forest) e (omega (arith, front-length))) tt
     deepest d (refuses a b) e = tt
 
     pub same-value : Alike (valueIn m t c (take n ns)) (andThen (levelAt 0 (t .levels) (take n (keys ns))) askValue)
@@ -319,14 +318,14 @@ module _ (m : Limits) (t : Tree) (w : Whole m t) (c : Component) (ns : List Comp
   pub value-search : outward (valueIn m t c) (refuses 16 0) ns (length ns) 0 ≡ foundOf ns (length ns) (refuses 16 0) (nearF askValue (t .levels) (keys ns) 0 (refuses 0 0))
   value-search = outward-near (valueIn m t c) askValue (refuses 16 0) (t .levels) ns same-value
 
-  pub value-deep : (d : Deep ℕ) → nearF askValue (t .levels) (keys ns) 0 (refuses 0 0) ≡ gives d → (0 < d .depth) × (d .depth ≤ length ns) × (d .depth < m .components) × (d .value < length (t .objects))
+  pub value-deep : (d : Deep ℕ) → nearF askValue (t .levels) (keys ns) 0 (refuses 0 0) ≡ gives d → (0 < d .depth) × (d .depth ≤ length ns) × (d .depth < m .components) × (isLive t (d .value) ≡ true)
   value-deep d e =
       let h = near-hold askValue (t .levels) (keys ns) d e in (
         h .far,
         omega (arith, h .near, length-keys ns),
         shallow h,
-        handle-live (length (t .objects)) 0 (key c) (d .value) (h .level .bindings)
-            (level-ordered (m .components) (length (t .objects)) (t .levels) 1 0 0 (take (d .depth - 0) (keys ns)) (h .level) (w .forest) (h .at)) (h .gave),
+        handle-live (isLive t) 0 (key c) (d .value) (h .level .bindings)
+            (level-ordered (m .components) (isLive t) (t .levels) 1 0 0 (take (d .depth - 0) (keys ns)) (h .level) (w .forest) (h .at)) (h .gave),
       )
     where
       shallow : Hold askValue (t .levels) (keys ns) 0 d (length (keys ns)) → d .depth < m .components
@@ -341,6 +340,6 @@ module _ (m : Limits) (t : Tree) (w : Whole m t) (c : Component) (ns : List Comp
           go true q = ltb-true (d .depth) (m .components) q
           go false q =
               absurd (none-given (h .level .bindings)
-              (deep-bindings (m .components) (length (t .objects)) (t .levels) 0 0 0 (take (d .depth - 0) (keys ns)) (h .level) (w .forest) (h .at)
+              (deep-bindings (m .components) (isLive t) (t .levels) 0 0 0 (take (d .depth - 0) (keys ns)) (h .level) (w .forest) (h .at)
               (omega (arith, ltb-false (d .depth) (m .components) q, length-take-le (d .depth - 0) (keys ns) (omega (arith, h .near)), h .near, length-keys ns, room)))
               (h .gave))

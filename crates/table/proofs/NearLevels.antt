@@ -1,9 +1,9 @@
 -- One pass over the records finds the innermost scope that has a level of a segment.
 use mathlib.Core.Path.{_≡_, refl, ap, ap₂, sym, _∙_}
-use mathlib.Core.Bool.{Bool, true, false, cond}
+use mathlib.Core.Bool.{Bool, true, false, cond, _||_}
 use mathlib.Core.Logic.{_⊎_, inl, inr}
 use mathlib.Core.List.{List, [], _∷_, _++_, append-assoc}
-use Prim.Native.Nat.{ℕ, zero, suc, _+_, _-_, _<_, _≤_}
+use Prim.Native.Nat.{ℕ, zero, suc, _+_, _-_, _<_, _≤_, _^_}
 use native.Mathlib.Omega.{arith}
 use native.Mathlib.Numerals.{add-one}
 use lib.Dec.{leb, ltb, eqb}
@@ -13,7 +13,7 @@ use borrow.Author.Tests.{le-leb, lt-leb, eq-eqb, ne-eqb, eqb-true, lt-ltb, le-lt
 use Rattle.pkg_length.specs.Refusal.{Answer, gives, refuses, andThen}
 use Rattle.name_object.specs.Component.{Component}
 use Rattle.table.specs.Limits.{Limits}
-use Rattle.table.specs.Tree.{Binding, Forest, none, level, Tree, Level, key, keys}
+use Rattle.table.specs.Tree.{Binding, Forest, none, level, Tree, Level, key, keys, isLive}
 use Rattle.table.specs.Layout.{pack, rankOf, segOf, flat}
 use Rattle.table.specs.Memory.{wellFormed, decode}
 use Rattle.table.specs.Edits.{levelAt, hasLevel}
@@ -46,17 +46,17 @@ unfolding nearF nearL
 near-depth s none p r out = refl
 near-depth s (level s′ t b kids next) [] r out = refl
 near-depth s (level s′ t b kids next) (x ∷ p) r out =
-    go (eqb s′ x) (near-depth s kids p (suc r) (closer (suc r) (askChild s (record { bindings = b; children = kids })) out)) (near-depth s next (x ∷ p) r out)
+    go (eqb s′ x) (near-depth s kids p (suc r) (closer (suc r) (askChild s (record { segment = s′; typ = t; bindings = b; children = kids })) out)) (near-depth s next (x ∷ p) r out)
   where
     asked : (h : Bool) → depthOf (closer (suc r) (cond h (gives tt) (refuses 15 1)) out) ≡ cond h (suc r) (depthOf out)
     asked true = refl
     asked false = refl
 
     go : (e : Bool)
-        → depthOf (nearF (askChild s) kids p (suc r) (closer (suc r) (askChild s (record { bindings = b; children = kids })) out))
-        ≡ nearL s kids p (suc r) (depthOf (closer (suc r) (askChild s (record { bindings = b; children = kids })) out))
+        → depthOf (nearF (askChild s) kids p (suc r) (closer (suc r) (askChild s (record { segment = s′; typ = t; bindings = b; children = kids })) out))
+        ≡ nearL s kids p (suc r) (depthOf (closer (suc r) (askChild s (record { segment = s′; typ = t; bindings = b; children = kids })) out))
         → depthOf (nearF (askChild s) next (x ∷ p) r out) ≡ nearL s next (x ∷ p) r (depthOf out)
-        → depthOf (cond e (nearF (askChild s) kids p (suc r) (closer (suc r) (askChild s (record { bindings = b; children = kids })) out)) (nearF (askChild s) next (x ∷ p) r out))
+        → depthOf (cond e (nearF (askChild s) kids p (suc r) (closer (suc r) (askChild s (record { segment = s′; typ = t; bindings = b; children = kids })) out)) (nearF (askChild s) next (x ∷ p) r out))
         ≡ cond e (nearL s kids p (suc r) (cond (hasLevel s kids) (suc r) (depthOf out))) (nearL s next (x ∷ p) r (depthOf out))
     go true i l = i ∙ ap (nearL s kids p (suc r)) (asked (hasLevel s kids))
     go false i l = l
@@ -101,18 +101,18 @@ unfolding nearL
 near-nil s none r best = refl
 near-nil s (level s′ t b kids next) r best = refl
 
-module _ (limit made : ℕ) where
-  late-near : (s : ℕ) (f : Forest) (q lo x : ℕ) (p : List ℕ) (r best : ℕ) → Valid limit made q lo f → x < lo → nearL s f (x ∷ p) r best ≡ best
+module _ (limit : ℕ) (live : ℕ → Bool) where
+  late-near : (s : ℕ) (f : Forest) (q lo x : ℕ) (p : List ℕ) (r best : ℕ) → Valid limit live q lo f → x < lo → nearL s f (x ∷ p) r best ≡ best
   unfolding nearL
   late-near s none q lo x p r best v h = refl
   late-near s (level s′ t b kids next) q lo x p r best v h =
       rw (ne-eqb s′ x (λ e. omega (arith, v .0 .rises))) (late-near s next q (suc s′) x p r best (v .2) (omega (arith, v .0 .rises)))
 
   -- one sibling more
-  step : (s s′ r best : ℕ) (h : Bool) → cond h r (cond (eqb s′ s) r best) ≡ cond (cond (eqb s′ s) true h) r best
+  step : (s s′ r best : ℕ) (h : Bool) → cond h r (cond (eqb s′ s) r best) ≡ cond (eqb s′ s || h) r best
   step s s′ r best h = go (eqb s′ s) h
     where
-      go : (e h : Bool) → cond h r (cond e r best) ≡ cond (cond e true h) r best
+      go : (e h : Bool) → cond h r (cond e r best) ≡ cond (e || h) r best
       go true true = refl
       go true false = refl
       go false h = refl
@@ -121,7 +121,7 @@ module _ (limit made : ℕ) where
   low true r best h = omega arith
   low false r best h = h
 
-  pub lev-near : (s : ℕ) (f : Forest) (lo : ℕ) (p : List ℕ) (r best : ℕ) → Valid limit made (suc r) lo f → best ≤ r → levF s f p r best ≡ nearL s f p r (cond (hasLevel s f) r best)
+  pub lev-near : (s : ℕ) (f : Forest) (lo : ℕ) (p : List ℕ) (r best : ℕ) → Valid limit live (suc r) lo f → best ≤ r → levF s f p r best ≡ nearL s f p r (cond (hasLevel s f) r best)
   unfolding levF nearL hasLevel
   lev-near s none lo p r best v h = refl
   lev-near s (level s′ t b kids next) lo [] r best v h =
@@ -137,12 +137,12 @@ module _ (limit made : ℕ) where
           → levF s kids p (suc r) (cond (eqb s′ s) r best) ≡ nearL s kids p (suc r) (cond (hasLevel s kids) (suc r) (cond (eqb s′ s) r best))
           → levF s next (x ∷ p) r (cond (eqb s′ s) r best) ≡ nearL s next (x ∷ p) r (cond (hasLevel s next) r (cond (eqb s′ s) r best))
           → cond e (levF s next (x ∷ p) r (levF s kids p (suc r) (cond (eqb s′ s) r best))) (levF s next (x ∷ p) r (cond (eqb s′ s) r best))
-          ≡ cond e (nearL s kids p (suc r) (cond (hasLevel s kids) (suc r) (cond (cond (eqb s′ s) true (hasLevel s next)) r best))) (nearL s next (x ∷ p) r (cond (cond (eqb s′ s) true (hasLevel s next)) r best))
+          ≡ cond e (nearL s kids p (suc r) (cond (hasLevel s kids) (suc r) (cond (eqb s′ s || hasLevel s next) r best))) (nearL s next (x ∷ p) r (cond (eqb s′ s || hasLevel s next) r best))
       go false e i l = l ∙ ap (nearL s next (x ∷ p) r) (step s s′ r best (hasLevel s next))
       go true e i l = rw i (found (hasLevel s kids) refl (fixed s kids p (suc r)))
         where
           -- nothing deeper: what was before stays, and the later siblings are asked
-          on : (c : ℕ) → c ≡ cond (eqb s′ s) r best → levF s next (x ∷ p) r c ≡ cond (cond (eqb s′ s) true (hasLevel s next)) r best
+          on : (c : ℕ) → c ≡ cond (eqb s′ s) r best → levF s next (x ∷ p) r c ≡ cond (eqb s′ s || hasLevel s next) r best
           on c q =
               ap (levF s next (x ∷ p) r) q ∙ l
               ∙ late-near s next (suc r) (suc s′) x p r (cond (hasLevel s next) r (cond (eqb s′ s) r best)) (v .2) (omega (arith, eqb-true s′ x e))
@@ -150,11 +150,11 @@ module _ (limit made : ℕ) where
 
           found : (hk : Bool) → hasLevel s kids ≡ hk → Fixed s kids p (suc r) ⊎ ((best : ℕ) → nearL s kids p (suc r) best ≡ best)
               → levF s next (x ∷ p) r (nearL s kids p (suc r) (cond (hasLevel s kids) (suc r) (cond (eqb s′ s) r best)))
-              ≡ nearL s kids p (suc r) (cond (hasLevel s kids) (suc r) (cond (cond (eqb s′ s) true (hasLevel s next)) r best))
-          found hk q (inl k) = rw (k .always (cond (hasLevel s kids) (suc r) (cond (eqb s′ s) r best)), k .always (cond (hasLevel s kids) (suc r) (cond (cond (eqb s′ s) true (hasLevel s next)) r best)))
+              ≡ nearL s kids p (suc r) (cond (hasLevel s kids) (suc r) (cond (eqb s′ s || hasLevel s next) r best))
+          found hk q (inl k) = rw (k .always (cond (hasLevel s kids) (suc r) (cond (eqb s′ s) r best)), k .always (cond (hasLevel s kids) (suc r) (cond (eqb s′ s || hasLevel s next) r best)))
               (lev-done s next (x ∷ p) r (k .depth) (omega (arith, k .deeper)))
           found true q (inr k) = rw (q, k (suc r)) (lev-done s next (x ∷ p) r (suc r) (omega arith))
-          found false q (inr k) = rw (q, k (cond (eqb s′ s) r best), k (cond (cond (eqb s′ s) true (hasLevel s next)) r best)) (on (cond (eqb s′ s) r best) refl)
+          found false q (inr k) = rw (q, k (cond (eqb s′ s) r best), k (cond (eqb s′ s || hasLevel s next) r best)) (on (cond (eqb s′ s) r best) refl)
 
 -- the pass over the words
 reopen-is : (depth r : ℕ) → r ≤ depth → reopened depth (suc r) ≡ r
@@ -188,9 +188,9 @@ module _ (s : ℕ) (P : List ℕ) where
         let o : reopened depth (rankOf w) ≡ depth = rw (lt-leb (rankOf w) depth (omega arith)) in
         rw (lt-leb (rankOf w) best (omega arith), o, ne-eqb (rankOf w) (depth + 1) (λ e. omega arith))
 
-  module _ (limit made : ℕ) where
+  module _ (limit : ℕ) (live : ℕ → Bool) where
     -- deeper records are passed over
-    lev-past : (f : Forest) (q lo : ℕ) (ws : List ℕ) (depth best : ℕ) → suc depth < q → best ≤ depth → Valid limit made q lo f → nearLevelIn s P (flat q f ++ ws) depth best ≡ nearLevelIn s P ws depth best
+    lev-past : (f : Forest) (q lo : ℕ) (ws : List ℕ) (depth best : ℕ) → suc depth < q → best ≤ depth → Valid limit live q lo f → nearLevelIn s P (flat q f ++ ws) depth best ≡ nearLevelIn s P ws depth best
     unfolding flat
     lev-past none q lo ws depth best h l v = refl
     lev-past (level s′ t b kids next) q lo ws depth best h l v =
@@ -205,7 +205,7 @@ module _ (s : ℕ) (P : List ℕ) where
       pub goes : nearLevelIn s P (flat (suc r) f ++ ws) depth best ≡ nearLevelIn s P ws depth′ end
 
     -- one level, with what stands below it and after it
-    module _ (s′ t : ℕ) (b : List Binding) (kids next : Forest) (lo r : ℕ) (v : Valid limit made (suc r) lo (level s′ t b kids next)) (ws : List ℕ) (u : Below (suc r) ws) (depth best : ℕ) (h : r ≤ depth) where
+    module _ (s′ t : ℕ) (b : List Binding) (kids next : Forest) (lo r : ℕ) (v : Valid limit live (suc r) lo (level s′ t b kids next)) (ws : List ℕ) (u : Below (suc r) ws) (depth best : ℕ) (h : r ≤ depth) where
       word : ℕ
       word = pack (suc r) t (length b) s′
 
@@ -243,7 +243,7 @@ module _ (s : ℕ) (P : List ℕ) where
           record {
             depth′ = n .depth′;
             wide = n .wide;
-            goes = begun l ∙ rw o (lev-past kids (suc (suc r)) 0 (flat (suc r) next ++ ws) r (cond (eqb s′ s) r best) (omega arith) (low limit made (eqb s′ s) r best l) (v .1) ∙ n .goes);
+            goes = begun l ∙ rw o (lev-past kids (suc (suc r)) 0 (flat (suc r) next ++ ws) r (cond (eqb s′ s) r best) (omega arith) (low limit live (eqb s′ s) r best l) (v .1) ∙ n .goes);
           }
 
       on : (mid end : ℕ) → best ≤ r → onward P r s′ ≡ true → (k : Goes kids (flat (suc r) next ++ ws) (suc r) (suc r) (cond (eqb s′ s) r best) mid) → Goes next ws r (k .depth′) mid end
@@ -270,7 +270,7 @@ module _ (s : ℕ) (P : List ℕ) where
     is-onward : (r s′ x : ℕ) (p : List ℕ) → Head r x p → onward P r s′ ≡ eqb s′ x
     is-onward r s′ x p h = rw (lt-ltb r (length P) (h .some), h .first)
 
-    pub lev-forest : (f : Forest) (lo : ℕ) (p ws : List ℕ) (r depth best : ℕ) → Valid limit made (suc r) lo f → Below (suc r) ws → p ≡ drop r P → r ≤ depth
+    pub lev-forest : (f : Forest) (lo : ℕ) (p ws : List ℕ) (r depth best : ℕ) → Valid limit live (suc r) lo f → Below (suc r) ws → p ≡ drop r P → r ≤ depth
         → Goes f ws r depth best (levF s f p r best)
     lev-forest none lo p ws r depth best v u d h = record { depth′ = depth; wide = h; goes = unfold flat levF in refl }
     lev-forest (level s′ t b kids next) lo [] ws r depth best v u d h =
@@ -283,7 +283,7 @@ module _ (s : ℕ) (P : List ℕ) where
             unfold levF in rw e (off s′ t b kids next lo r v ws u depth best h _ (omega (arith, leb-false (suc r) best e)) (not-onward r s′ d) n)
     lev-forest (level s′ t b kids next) lo (x ∷ p) ws r depth best v u d h =
         go (leb (suc r) best) refl (eqb s′ x) refl (head-of r x p d)
-        (λ q. lev-forest kids 0 p (flat (suc r) next ++ ws) (suc r) (suc r) (cond (eqb s′ s) r best) (v .1) (below-flat limit made (suc r) (suc s′) next ws (v .2) u) q (omega arith))
+        (λ q. lev-forest kids 0 p (flat (suc r) next ++ ws) (suc r) (suc r) (cond (eqb s′ s) r best) (v .1) (below-flat limit live (suc r) (suc s′) next ws (v .2) u) q (omega arith))
         (λ dep mid w. lev-forest next (suc s′) (x ∷ p) ws r dep mid (v .2) u d w)
       where
         go : (y : Bool) → leb (suc r) best ≡ y → (e : Bool) → eqb s′ x ≡ e → Head r x p
@@ -306,16 +306,16 @@ module _ (s : ℕ) (P : List ℕ) where
   lev-spare (suc n) depth best = rw (le-leb (rankOf 0) best (omega arith))
 
 -- memory's words
-pub level-held : (m : Limits) (hm : m .objects ≤ 4294967296) (ws : List ℕ) (ok : wellFormed m ws ≡ true) (s : ℕ) (p : List ℕ)
+pub level-held : (m : Limits) (hm : m .objects ≤ 2 ^ 32) (ws : List ℕ) (ok : wellFormed m ws ≡ true) (s : ℕ) (p : List ℕ)
     → nearLevelIn s p (take (m .levels) ws) 0 0 ≡ depthOf (nearF (askChild s) (decode m ws .levels) p 0 (refuses 0 0))
 level-held m hm ws ok s p =
     let f : Forest = decode m ws .levels in
     let v = whole m hm ws ok .forest in
-    let made : ℕ = length (decode m ws .objects) in
+    let live : ℕ → Bool = isLive (decode m ws) in
     let z : ℕ = m .levels - length (flat 1 (decode m ws .levels)) in
-    let g = lev-forest s p (m .components) made f 0 p (replicate z 0) 0 0 0 v (below-spare 1 z (omega arith)) refl (omega arith) in
+    let g = lev-forest s p (m .components) live f 0 p (replicate z 0) 0 0 0 v (below-spare 1 z (omega arith)) refl (omega arith) in
     ap (λ (l : List ℕ). nearLevelIn s p l 0 0) (levels-are m hm ws ok) ∙ g .goes ∙ lev-spare s p z (g .depth′) (levF s f p 0 0)
-    ∙ lev-near (m .components) made s f 0 p 0 0 v (omega arith) ∙ ap (nearL s f p 0) (same (hasLevel s f)) ∙ sym (near-depth s f p 0 (refuses 0 0))
+    ∙ lev-near (m .components) live s f 0 p 0 0 v (omega arith) ∙ ap (nearL s f p 0) (same (hasLevel s f)) ∙ sym (near-depth s f p 0 (refuses 0 0))
   where
     same : (h : Bool) → _≡_ {A = ℕ} (cond h 0 0) 0
     same true = refl
@@ -333,13 +333,13 @@ child-at (level s′ t b kids next) n s y [] = go (eqb s′ y) (single kids) (ch
     single (level s₁ t₁ b₁ k₁ n₁) = among (eqb s₁ s) (single n₁)
       where
         among : (e : Bool) → Alike {A = Unit {0}} (andThen (levelAt (suc n) n₁ (s ∷ [])) (λ l. gives tt)) (cond (hasLevel s n₁) (gives tt) (refuses 15 1))
-            → Alike {A = Unit {0}} (andThen (cond e (gives (record { bindings = b₁; children = k₁ })) (levelAt (suc n) n₁ (s ∷ []))) (λ l. gives tt)) (cond (cond e true (hasLevel s n₁)) (gives tt) (refuses 15 1))
+            → Alike {A = Unit {0}} (andThen (cond e (gives (record { segment = s₁; typ = t₁; bindings = b₁; children = k₁ })) (levelAt (suc n) n₁ (s ∷ []))) (λ l. gives tt)) (cond (e || hasLevel s n₁) (gives tt) (refuses 15 1))
         among true i = refl
         among false i = i
 
     go : (e : Bool) → Alike {A = Unit {0}} (andThen (levelAt (suc n) kids (s ∷ [])) (λ l. gives tt)) (cond (hasLevel s kids) (gives tt) (refuses 15 1))
         → Alike (andThen (levelAt n next (y ∷ s ∷ [])) (λ l. gives tt)) (andThen (levelAt n next (y ∷ [])) (askChild s))
-        → Alike (andThen (cond e (levelAt (suc n) kids (s ∷ [])) (levelAt n next (y ∷ s ∷ []))) (λ l. gives tt)) (andThen (cond e (gives (record { bindings = b; children = kids })) (levelAt n next (y ∷ []))) (askChild s))
+        → Alike (andThen (cond e (levelAt (suc n) kids (s ∷ [])) (levelAt n next (y ∷ s ∷ []))) (λ l. gives tt)) (andThen (cond e (gives (record { segment = s′; typ = t; bindings = b; children = kids })) (levelAt n next (y ∷ []))) (askChild s))
     go true i l = i
     go false i l = l
 child-at (level s′ t b kids next) n s y (z ∷ q) = go (eqb s′ y) (child-at kids (suc n) s z q) (child-at next n s y (z ∷ q))
@@ -367,7 +367,7 @@ module _ (m : Limits) (t : Tree) (w : Whole m t) (c : Component) (ns : List Comp
     deepest : m .components ≤ n → (a : Answer Level) → levelAt 0 (t .levels) (take n (keys ns)) ≡ a → Alike (refuses 15 1) (andThen a (askChild (key c)))
     unfolding hasLevel
     deepest d (gives l) e =
-        rw (deep-children (m .components) (length (t .objects)) (t .levels) 0 0 0 (take n (keys ns)) l (w .forest) e (omega (arith, front-length))) tt
+        rw (deep-children (m .components) (isLive t) (t .levels) 0 0 0 (take n (keys ns)) l (w .forest) e (omega (arith, front-length))) tt
     deepest d (refuses a b) e = tt
 
     pub same-level : Alike (levelIn m t c (take n ns)) (andThen (levelAt 0 (t .levels) (take n (keys ns))) (askChild (key c)))
@@ -397,7 +397,7 @@ module _ (m : Limits) (t : Tree) (w : Whole m t) (c : Component) (ns : List Comp
           go true q = ltb-true (d .depth) (m .components) q
           go false q =
               absurd (none-given (h .level .children)
-              (deep-children (m .components) (length (t .objects)) (t .levels) 0 0 0 (take (d .depth - 0) (keys ns)) (h .level) (w .forest) (h .at)
+              (deep-children (m .components) (isLive t) (t .levels) 0 0 0 (take (d .depth - 0) (keys ns)) (h .level) (w .forest) (h .at)
               (omega (arith, ltb-false (d .depth) (m .components) q, length-take-le (d .depth - 0) (keys ns) (omega (arith, h .near)), h .near, length-keys ns, room)))
               (h .gave))
 

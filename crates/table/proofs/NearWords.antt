@@ -2,7 +2,7 @@
 use mathlib.Core.Path.{_≡_, refl, ap, ap₂, sym, _∙_}
 use mathlib.Core.Bool.{Bool, true, false, cond}
 use mathlib.Core.List.{List, [], _∷_, _++_, append-assoc, map, map-append}
-use Prim.Native.Nat.{ℕ, suc, _+_, _-_, _<_, _≤_}
+use Prim.Native.Nat.{ℕ, suc, _+_, _-_, _<_, _≤_, _^_}
 use native.Mathlib.Omega.{arith}
 use native.Mathlib.Numerals.{add-one}
 use lib.Dec.{ltb, eqb}
@@ -11,7 +11,7 @@ use lib.Seq.{take-at, drop-at, drop-drop, drop-cons}
 use borrow.Author.Tests.{le-leb, lt-leb, eq-eqb, ne-eqb, eqb-true, eqb-false, lt-ltb, le-ltb, ltb-true, ltb-false}
 use Rattle.pkg_length.specs.Refusal.{Answer, gives, refuses}
 use Rattle.table.specs.Limits.{Limits}
-use Rattle.table.specs.Tree.{Binding, Forest, none, level, bound}
+use Rattle.table.specs.Tree.{Binding, Forest, none, level, bound, isLive}
 use Rattle.table.specs.Layout.{pack, rankOf, countOf, segOf, flat, bindWord, bindingOf}
 use Rattle.table.specs.Valid.{rising}
 use Rattle.table.specs.Memory.{wellFormed, decode}
@@ -20,12 +20,13 @@ use Rattle.table.specs.Inside.{slotIn, nearerOf, nearIn, farthest}
 use Rattle.table.specs.declared.inner.Slot.{Slot}
 use Rattle.table.specs.declared.inner.Nearest.{Nearest}
 use Rattle.table.proofs.Words.{rank-pack, count-pack, seg-pack, bindings-back}
-use Rattle.table.proofs.Shape.{Valid}
+use Rattle.table.proofs.Shape.{Valid, Small}
 use Rattle.table.proofs.Decode.{Below, below-flat, below-spare}
 use Rattle.table.proofs.Slots.{slot-bound, slot-free}
 use Rattle.table.proofs.Objects.{whole}
 use Rattle.table.proofs.Held.{levels-are, bindings-are}
 use Rattle.table.proofs.Near.{Deep, closer, nearF}
+use Rattle.table.proofs.Whole.{small-handles}
 
 -- what is found, as the code holds it
 abbrev pub nearestOf : Answer (Deep ℕ) → Nearest
@@ -33,13 +34,13 @@ nearestOf (gives d) = record { depth = d .depth; handle = d .value }
 nearestOf (refuses n p) = farthest
 
 -- a level's slot and what it holds
-module _ (s made r i : ℕ) (b : List Binding) (o : rising made 0 b ≡ true) (out : Answer (Deep ℕ)) where
+module _ (s : ℕ) (live : ℕ → Bool) (r i : ℕ) (b : List Binding) (o : rising live 0 b ≡ true) (out : Answer (Deep ℕ)) where
   pub nearer-is : nearerOf r (slotIn s b i) (nearestOf out) ≡ nearestOf (closer r (handleIn s b) out)
   nearer-is = go (slotIn s b i) refl
     where
       go : (q : Slot) → slotIn s b i ≡ q → nearerOf r q (nearestOf out) ≡ nearestOf (closer r (handleIn s b) out)
       go (Slot.Bound h) e = rw (slot-bound s b i h e .0)
-      go (Slot.Free j) e = rw (slot-free s made 0 (record { segment = s; handle = 0 }) b i j refl o e .none)
+      go (Slot.Free j) e = rw (slot-free s live 0 (record { segment = s; handle = 0 }) b i j refl o e .none)
 
 -- one record
 module _ (s x : ℕ) (p : List ℕ) (w : ℕ) (ws bs : List ℕ) (r m : ℕ) (out : Nearest) where
@@ -71,9 +72,9 @@ near-below s [] ws bs r m out u = refl
 near-below s (x ∷ p) [] bs r m out u = refl
 near-below s (x ∷ p) (w ∷ ws) bs r m out u = near-stop s x p w ws bs r m out (omega arith)
 
-module _ (limit made : ℕ) (hm : made ≤ 4294967296) (s : ℕ) (bs : List ℕ) where
+module _ (limit : ℕ) (live : ℕ → Bool) (hm : Small live) (s : ℕ) (bs : List ℕ) where
   -- deeper records are passed over
-  near-past : (f : Forest) (q lo x : ℕ) (p ws : List ℕ) (r m : ℕ) (out : Nearest) → suc r < q → Valid limit made q lo f
+  near-past : (f : Forest) (q lo x : ℕ) (p ws : List ℕ) (r m : ℕ) (out : Nearest) → suc r < q → Valid limit live q lo f
       → nearIn s (x ∷ p) (flat q f ++ ws) bs r m out ≡ nearIn s (x ∷ p) ws bs r (m + length (bound f)) out
   unfolding flat bound
   near-past none q lo x p ws r m out h v = ap (λ (k : ℕ). nearIn s (x ∷ p) ws bs r k out) (plus m)
@@ -93,14 +94,14 @@ module _ (limit made : ℕ) (hm : made ≤ 4294967296) (s : ℕ) (bs : List ℕ)
       sums m c b k n i j e f g = omega arith
 
   -- a segment below all siblings is none of them
-  late-near : (f : Forest) (r lo x : ℕ) (p : List ℕ) (k : ℕ) (out : Answer (Deep ℕ)) → Valid limit made r lo f → x < lo → nearF (λ l. handleIn s (l .bindings)) f (x ∷ p) k out ≡ out
+  late-near : (f : Forest) (r lo x : ℕ) (p : List ℕ) (k : ℕ) (out : Answer (Deep ℕ)) → Valid limit live r lo f → x < lo → nearF (λ l. handleIn s (l .bindings)) f (x ∷ p) k out ≡ out
   unfolding nearF
   late-near none r lo x p k out v h = refl
   late-near (level s′ t b kids next) r lo x p k out v h =
       rw (ne-eqb s′ x (λ e. omega (arith, v .0 .rises))) (late-near next r (suc s′) x p k out (v .2) (omega (arith, v .0 .rises)))
 
   -- one pass over a forest's words finds what the forest says
-  pub near-forest : (f : Forest) (lo : ℕ) (p ws : List ℕ) (r m : ℕ) (out : Answer (Deep ℕ)) (rest : List ℕ) → Valid limit made (suc r) lo f → Below (suc r) ws
+  pub near-forest : (f : Forest) (lo : ℕ) (p ws : List ℕ) (r m : ℕ) (out : Answer (Deep ℕ)) (rest : List ℕ) → Valid limit live (suc r) lo f → Below (suc r) ws
       → drop m bs ≡ map bindWord (bound f) ++ rest
       → nearIn s p (flat (suc r) f ++ ws) bs r m (nearestOf out) ≡ nearestOf (nearF (λ l. handleIn s (l .bindings)) f p r out)
   unfolding nearF flat
@@ -110,7 +111,7 @@ module _ (limit made : ℕ) (hm : made ≤ 4294967296) (s : ℕ) (bs : List ℕ)
       rw (append-assoc (flat (suc (suc r)) kids) (flat (suc r) next) ws)
       (go (eqb s′ x) (ltb x s′) refl refl
       (near-forest kids 0 p (flat (suc r) next ++ ws) (suc r) (m + countOf word) (closer (suc r) (handleIn s b) out) (map bindWord (bound next) ++ rest) (v .1)
-      (below-flat limit made (suc r) (suc s′) next ws (v .2) u) after-own)
+      (below-flat limit live (suc r) (suc s′) next ws (v .2) u) after-own)
       (near-forest next (suc s′) (x ∷ p) ws r (m + countOf word + length (bound kids)) out rest (v .2) u after-kids))
     where
       word : ℕ
@@ -146,7 +147,7 @@ module _ (limit made : ℕ) (hm : made ≤ 4294967296) (s : ℕ) (bs : List ℕ)
       own : map bindingOf (take (countOf (pack (suc r) t (length b) s′)) (drop m bs)) ≡ b
       own =
           ap (map bindingOf) (ap₂ (λ (n : ℕ) (l : List ℕ). take n l) count-is here ∙ take-at (map bindWord b) _ (length b) (length-map b bindWord))
-          ∙ bindings-back made 0 b hm (v .0 .ordered)
+          ∙ bindings-back live 0 b hm (v .0 .ordered)
 
       W : List ℕ
       W = flat (suc (suc r)) kids ++ (flat (suc r) next ++ ws)
@@ -161,7 +162,7 @@ module _ (limit made : ℕ) (hm : made ≤ 4294967296) (s : ℕ) (bs : List ℕ)
       go true y e f i l =
           near-down s x p _ _ bs r m (nearestOf out) rank-is (seg-is ∙ eqb-true s′ x e)
           ∙ ap (nearIn s p (flat (suc (suc r)) kids ++ (flat (suc r) next ++ ws)) bs (suc r) (m + countOf (pack (suc r) t (length b) s′)))
-          (ap (λ (z : List Binding). nearerOf (suc r) (slotIn s z m) (nearestOf out)) own ∙ nearer-is s made (suc r) m b (v .0 .ordered) out)
+          (ap (λ (z : List Binding). nearerOf (suc r) (slotIn s z m) (nearestOf out)) own ∙ nearer-is s live (suc r) m b (v .0 .ordered) out)
           ∙ i
       go false true e f i l =
           near-before s x p _ _ bs r m (nearestOf out) rank-is (rw seg-is (ltb-true x s′ f))
@@ -172,11 +173,11 @@ module _ (limit made : ℕ) (hm : made ≤ 4294967296) (s : ℕ) (bs : List ℕ)
           ∙ l
 
 -- memory's words
-pub near-held : (m : Limits) (hm : m .objects ≤ 4294967296) (ws : List ℕ) (ok : wellFormed m ws ≡ true) (s : ℕ) (p : List ℕ)
+pub near-held : (m : Limits) (hm : m .objects ≤ 2 ^ 32) (ws : List ℕ) (ok : wellFormed m ws ≡ true) (s : ℕ) (p : List ℕ)
     → nearIn s p (take (m .levels) ws) (take (m .bindings) (drop (m .levels) ws)) 0 0 farthest ≡ nearestOf (nearF (λ l. handleIn s (l .bindings)) (decode m ws .levels) p 0 (refuses 0 0))
 near-held m hm ws ok s p =
     ap (λ (l : List ℕ). nearIn s p l (take (m .bindings) (drop (m .levels) ws)) 0 0 farthest) (levels-are m hm ws ok)
-    ∙ near-forest (m .components) (length (decode m ws .objects)) (omega (arith, whole m hm ws ok .objects)) s (take (m .bindings) (drop (m .levels) ws)) (decode m ws .levels) 0 p
+    ∙ near-forest (m .components) (isLive (decode m ws)) (small-handles m (decode m ws) (whole m hm ws ok) hm) s (take (m .bindings) (drop (m .levels) ws)) (decode m ws .levels) 0 p
     (replicate (m .levels - length (flat 1 (decode m ws .levels))) 0) 0 0 (refuses 0 0)
     (replicate (m .bindings - length (map bindWord (bound (decode m ws .levels)))) 0) (whole m hm ws ok .forest)
     (below-spare 1 (m .levels - length (flat 1 (decode m ws .levels))) (omega arith)) (bindings-are m hm ws ok)

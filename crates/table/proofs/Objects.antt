@@ -2,7 +2,7 @@
 use mathlib.Core.Path.{_≡_, refl, ap, ap₂, sym, _∙_}
 use mathlib.Core.Bool.{Bool, true, false, cond}
 use mathlib.Core.List.{List, [], _∷_, _++_, append-assoc, map}
-use Prim.Native.Nat.{ℕ, suc, _+_, _-_, _<_, _≤_}
+use Prim.Native.Nat.{ℕ, suc, _+_, _-_, _<_, _≤_, _^_}
 use native.Mathlib.Omega.{arith}
 use lib.Dec.{ltb}
 use lib.ListN.{length, drop, getD, set, replicate, replicate-append-replicate, length-append, length-set}
@@ -10,7 +10,7 @@ use lib.Seq.{getD-take, getD-drop, set-append-left}
 use borrow.Author.Tests.{lt-ltb, le-ltb}
 use Rattle.pkg_length.specs.Refusal.{gives, refuses}
 use Rattle.table.specs.Limits.{Limits}
-use Rattle.table.specs.Tree.{Tree, bound}
+use Rattle.table.specs.Tree.{Tree, bound, isLive}
 use Rattle.table.specs.Layout.{pack, flat, pad, encode, bindWord}
 use Rattle.table.specs.Valid.{rising, levelOk, valid}
 use Rattle.table.specs.Memory.{decode, wellFormed, means, size, left, done, freshTree}
@@ -44,7 +44,7 @@ fresh-valid m h k =
     whole-valid m freshTree
     (record {
       rooted = refl;
-      forest = (fit (m .components) 0 1 0 0 0 [] root-ok (unfold rising in refl), tt, tt);
+      forest = (fit (m .components) (isLive freshTree) 1 0 0 0 [] root-ok (unfold rising in refl), tt, tt);
       levels = unfold flat in h;
       bindings = unfold bound in omega arith;
       objects = omega arith;
@@ -57,7 +57,7 @@ fresh-valid m h k =
     root-ok : levelOk (m .components) 1 0 0 0 0 ≡ true
     root-ok = tests-level (m .components) 1 0 0 0 0 (record { ranked = omega arith; shallow = k; rises = omega arith; named = refl; counted = either (ltb 1 (m .components)) })
 
-root-alone : flat 1 (freshTree .levels) ≡ 35184372088832 ∷ []
+root-alone : flat 1 (freshTree .levels) ≡ 2 ^ 45 ∷ []
 unfolding flat pack
 root-alone = refl
 
@@ -65,12 +65,12 @@ none-bound : map bindWord (bound (freshTree .levels)) ≡ []
 unfolding bound
 none-bound = refl
 
-pub fresh-words : (m : Limits) → 0 < m .levels → set (replicate (size m) 0) 0 35184372088832 ≡ encode m freshTree
+pub fresh-words : (m : Limits) → 0 < m .levels → set (replicate (size m) 0) 0 (2 ^ 45) ≡ encode m freshTree
 unfolding encode pad
 fresh-words m h =
     rw (root-alone, none-bound)
-    (ap (λ (n : ℕ). set (replicate n 0) 0 35184372088832) (first (m .levels) (m .bindings) (m .objects) h)
-    ∙ ap (λ (l : List ℕ). 35184372088832 ∷ l)
+    (ap (λ (n : ℕ). set (replicate n 0) 0 (2 ^ 45)) (first (m .levels) (m .bindings) (m .objects) h)
+    ∙ ap (λ (l : List ℕ). 2 ^ 45 ∷ l)
     (sym (replicate-append-replicate (m .levels - 1) (m .bindings + suc (m .objects)) 0)
     ∙ ap (λ (l : List ℕ). replicate (m .levels - 1) 0 ++ l) (sym (replicate-append-replicate (m .bindings) (suc (m .objects)) 0) ∙ ap₂ (λ (x y : ℕ). replicate x 0 ++ (0 ∷ replicate y 0)) (less (m .bindings)) (less (m .objects)))))
   where
@@ -81,7 +81,7 @@ fresh-words m h =
     less n = omega arith
 
 -- objects
-module _ (m : Limits) (hm : m .objects ≤ 4294967296) (ws : List ℕ) (ok : wellFormed m ws ≡ true) where
+module _ (m : Limits) (hm : m .objects ≤ 2 ^ 32) (ws : List ℕ) (ok : wellFormed m ws ≡ true) where
   abbrev pub tree : Tree
   tree = decode m ws
 

@@ -11,7 +11,7 @@ use lib.Seq.{take-at, drop-at, getD-at}
 use borrow.Author.Tests.{lt-ltb, le-ltb, lt-leb, le-leb}
 use Rattle.pkg_length.specs.Refusal.{gives, refuses}
 use Rattle.table.specs.Limits.{Limits}
-use Rattle.table.specs.Tree.{Binding, Forest, none, level, Tree, Level, bound}
+use Rattle.table.specs.Tree.{Binding, Forest, none, level, Tree, Level, bound, isLive}
 use Rattle.table.specs.Layout.{pack, rankOf, flat, pad, bindWord}
 use Rattle.table.specs.Valid.{some}
 use Rattle.table.specs.Edits.{levelAt, alter, without, withLevels, removeLevel}
@@ -36,13 +36,13 @@ run-below : (r : ℕ) (ws : List ℕ) → Below (suc r) ws → run r ws ≡ 0
 run-below r [] u = unfold run in refl
 run-below r (w ∷ ws) u = run-stop r w ws (omega arith)
 
-run-flat : (limit made : ℕ) (f : Forest) (q lo r : ℕ) (ws : List ℕ) → r < q → Valid limit made q lo f → run r (flat q f ++ ws) ≡ length (flat q f) + run r ws
+run-flat : (limit : ℕ) (live : ℕ → Bool) (f : Forest) (q lo r : ℕ) (ws : List ℕ) → r < q → Valid limit live q lo f → run r (flat q f ++ ws) ≡ length (flat q f) + run r ws
 unfolding flat
-run-flat limit made none q lo r ws h v = omega arith
-run-flat limit made (level s t b kids next) q lo r ws h v =
+run-flat limit live none q lo r ws h v = omega arith
+run-flat limit live (level s t b kids next) q lo r ws h v =
     rw (append-assoc (flat (suc q) kids) (flat q next) ws)
     (run-more r (pack q t (length b) s) (flat (suc q) kids ++ (flat q next ++ ws)) (rw (rank-pack q t (length b) s (v .0 .small) (v .0 .few) (v .0 .fits)) h)
-    ∙ ap suc (run-flat limit made kids (suc q) 0 r (flat q next ++ ws) (omega arith) (v .1) ∙ ap (λ (n : ℕ). length (flat (suc q) kids) + n) (run-flat limit made next q (suc s) r ws h (v .2)))
+    ∙ ap suc (run-flat limit live kids (suc q) 0 r (flat q next ++ ws) (omega arith) (v .1) ∙ ap (λ (n : ℕ). length (flat (suc q) kids) + n) (run-flat limit live next q (suc s) r ws h (v .2)))
     ∙ sums (length (flat (suc q) kids)) (length (flat q next)) (run r ws) _ (length-append (flat (suc q) kids) (flat q next)))
   where
     sums : (a b c n : ℕ) → n ≡ a + b → suc (a + (b + c)) ≡ suc n + c
@@ -77,7 +77,7 @@ module _ (n : ℕ) (A M C xs : List ℕ) (z j e : ℕ) (w : xs ≡ A ++ (M ++ (C
 around : {T : Type 0} (a m c p z : List T) → a ++ (m ++ c ++ p) ++ z ≡ a ++ (m ++ (c ++ p ++ z))
 around a m c p z = simp append-assoc
 
-module _ (m : Limits) (t : Tree) (w : Whole m t) (p : List ℕ) (j : ℕ) (f : Focus (m .components) (length (t .objects)) (t .levels) 0 0 p 0 j 0) (ls bs : List ℕ)
+module _ (m : Limits) (t : Tree) (w : Whole m t) (p : List ℕ) (j : ℕ) (f : Focus (m .components) (isLive t) (t .levels) 0 0 p 0 j 0) (ls bs : List ℕ)
     (els : ls ≡ flat 1 (t .levels) ++ replicate (m .levels - length (flat 1 (t .levels))) 0)
     (ebs : bs ≡ map bindWord (bound (t .levels)) ++ replicate (m .bindings - length (map bindWord (bound (t .levels)))) 0) where
   node : ℕ
@@ -175,12 +175,12 @@ module _ (m : Limits) (t : Tree) (w : Whole m t) (p : List ℕ) (j : ℕ) (f : F
   unfolding C
   rest-below =
       rw (append-assoc (flat (f .rank) (f .next)) (f .post) (replicate z 0))
-      (below-flat (m .components) (length (t .objects)) (f .rank) (suc (f .seg)) (f .next) (f .post ++ replicate z 0) (f .valid .2) (f .below (replicate z 0) (below-spare 1 z (omega arith))))
+      (below-flat (m .components) (isLive t) (f .rank) (suc (f .seg)) (f .next) (f .post ++ replicate z 0) (f .valid .2) (f .below (replicate z 0) (below-spare 1 z (omega arith))))
 
   run-is : run (rankOf (getD ls j 0)) (drop (j + 1) ls) ≡ length (flat (suc (f .rank)) (f .kids))
   run-is =
       ap₂ run node-rank after-node
-      ∙ run-flat (m .components) (length (t .objects)) (f .kids) (suc (f .rank)) 0 (f .rank) (C ++ replicate z 0) (omega arith) (f .valid .1)
+      ∙ run-flat (m .components) (isLive t) (f .kids) (suc (f .rank)) 0 (f .rank) (C ++ replicate z 0) (omega arith) (f .valid .1)
       ∙ ap (λ (n : ℕ). length (flat (suc (f .rank)) (f .kids)) + n) (run-below (f .rank) (C ++ replicate z 0) rest-below)
       ∙ add-zero (length (flat (suc (f .rank)) (f .kids)))
 
@@ -196,7 +196,7 @@ module _ (m : Limits) (t : Tree) (w : Whole m t) (p : List ℕ) (j : ℕ) (f : F
   unfolding M Mb counts node
   counts-M =
       ap₂ _+_ (count-pack (f .rank) (f .typ) (length (f .b)) (f .seg) (f .valid .0 .small) (f .valid .0 .few) (f .valid .0 .fits))
-      (counts-flat (m .components) (length (t .objects)) (suc (f .rank)) 0 (f .kids) (f .valid .1))
+      (counts-flat (m .components) (isLive t) (suc (f .rank)) 0 (f .kids) (f .valid .1))
       ∙ sym (length-append (f .b) (bound (f .kids))) ∙ sym (length-map (f .b ++ bound (f .kids)) bindWord)
 
   from-is : counts (take j ls) ≡ length Ab
@@ -239,7 +239,7 @@ module _ (m : Limits) (t : Tree) (w : Whole m t) (p : List ℕ) (j : ℕ) (f : F
   removed-whole h =
       record {
         rooted = root-stays (t .levels) p h (w .rooted);
-        forest = f .keeps without (unfold without in weaker (m .components) (length (t .objects)) (f .next) (f .rank) (suc (f .seg)) (f .lo) (omega (arith, f .valid .0 .rises)) (f .valid .2));
+        forest = f .keeps without (unfold without in weaker (m .components) (isLive t) (f .next) (f .rank) (suc (f .seg)) (f .lo) (omega (arith, f .valid .0 .rises)) (f .valid .2));
         levels = subst (λ (x : List ℕ). length x ≤ m .levels) (sym left-levels) (out-short (m .levels) A M C ls z j (subtreeEnd ls j) level-runs level-spare level-fits at-is end-is);
         bindings = subst (λ (n : ℕ). n ≤ m .bindings) (length-words (alter without (t .levels) p))
             (subst (λ (x : List ℕ). length x ≤ m .bindings) (sym left-binds) (out-short (m .bindings) Ab Mb Cb bs zb _ _ bind-runs bind-spare bind-fits from-is to-is));
@@ -263,11 +263,11 @@ module _ (m : Limits) (t : Tree) (w : Whole m t) where
   removed-yes p l h e = rw (lt-leb (length p) 1 h, e)
 
   pub remove-here : (p : List ℕ) (j : ℕ) → 1 < length p → seekF (t .levels) p 0 0 0 ≡ here j
-      → (Focus (m .components) (length (t .objects)) (t .levels) 0 0 p 0 j 0) × (removeLevel t p ≡ gives (withLevels t (alter without (t .levels) p)))
+      → (Focus (m .components) (isLive t) (t .levels) 0 0 p 0 j 0) × (removeLevel t p ≡ gives (withLevels t (alter without (t .levels) p)))
   remove-here [] j h e = absurd (omega arith)
   remove-here (x ∷ q) j h e =
-      let f = focus (m .components) (length (t .objects)) (t .levels) 0 0 x q 0 0 j (w .forest) e in
-      (f, removed-yes (x ∷ q) (record { bindings = f .b; children = f .kids }) h (f .found))
+      let f = focus (m .components) (isLive t) (t .levels) 0 0 x q 0 0 j (w .forest) e in
+      (f, removed-yes (x ∷ q) (record { segment = f .seg; typ = f .typ; bindings = f .b; children = f .kids }) h (f .found))
 
   removed-not : (p : List ℕ) (n : ℕ) → 1 < length p → levelAt 0 (t .levels) p ≡ refuses 15 n → removeLevel t p ≡ refuses 15 n
   unfolding removeLevel
@@ -277,7 +277,7 @@ module _ (m : Limits) (t : Tree) (w : Whole m t) where
   remove-before [] j h e = absurd (omega arith)
   remove-before (x ∷ q) j h e =
       removed-not (x ∷ q) (suc (length q) - 1) h
-      (subst (λ (s : Sought). lacking 0 q s (levelAt 0 (t .levels) (x ∷ q))) e (lacks (m .components) (length (t .objects)) (t .levels) 0 0 x q 0 0 (w .forest)) ∙ ap (refuses 15) (less (length q)))
+      (subst (λ (s : Sought). lacking 0 q s (levelAt 0 (t .levels) (x ∷ q))) e (lacks (m .components) (isLive t) (t .levels) 0 0 x q 0 0 (w .forest)) ∙ ap (refuses 15) (less (length q)))
     where
       less : (n : ℕ) → 0 + n ≡ suc n - 1
       less n = omega arith
@@ -285,7 +285,7 @@ module _ (m : Limits) (t : Tree) (w : Whole m t) where
   pub remove-missing : (p : List ℕ) (n : ℕ) → 1 < length p → seekF (t .levels) p 0 0 0 ≡ missing n → removeLevel t p ≡ refuses 15 n
   remove-missing [] n h e = absurd (omega arith)
   remove-missing (x ∷ q) n h e =
-      removed-not (x ∷ q) n h (subst (λ (s : Sought). lacking 0 q s (levelAt 0 (t .levels) (x ∷ q))) e (lacks (m .components) (length (t .objects)) (t .levels) 0 0 x q 0 0 (w .forest)))
+      removed-not (x ∷ q) n h (subst (λ (s : Sought). lacking 0 q s (levelAt 0 (t .levels) (x ∷ q))) e (lacks (m .components) (isLive t) (t .levels) 0 0 x q 0 0 (w .forest)))
 
 pub remove-root : (t : Tree) (p : List ℕ) → length p ≤ 1 → removeLevel t p ≡ refuses 14 0
 unfolding removeLevel

@@ -2,7 +2,7 @@
 use mathlib.Core.Path.{_≡_, refl, ap, _∙_}
 use mathlib.Core.Bool.{Bool, true, false, cond}
 use mathlib.Core.List.{List, [], _∷_, _++_, append-assoc}
-use Prim.Native.Nat.{ℕ, suc, _+_, _<_, _≤_}
+use Prim.Native.Nat.{ℕ, suc, _+_, _<_, _≤_, _^_}
 use native.Mathlib.Omega.{arith}
 use lib.Dec.{ltb, eqb}
 use lib.ListN.{length, length-append}
@@ -67,9 +67,9 @@ unfolding seekIn
 seek-below s p [] r at k u = refl
 seek-below s p (w ∷ ws) r at k u = seek-stop s p w ws r at k (omega arith)
 
-module _ (limit made : ℕ) where
+module _ (limit : ℕ) (live : ℕ → Bool) where
   -- deeper records are passed over
-  seek-past : (f : Forest) (q lo s : ℕ) (p ws : List ℕ) (r at k : ℕ) → suc r < q → Valid limit made q lo f
+  seek-past : (f : Forest) (q lo s : ℕ) (p ws : List ℕ) (r at k : ℕ) → suc r < q → Valid limit live q lo f
       → seekIn (s ∷ p) (flat q f ++ ws) r at k ≡ seekIn (s ∷ p) ws r at (after f k)
   unfolding flat after
   seek-past none q lo s p ws r at k h v = refl
@@ -80,7 +80,7 @@ module _ (limit made : ℕ) where
       ∙ seek-past next q (suc s′) s p ws r at (after kids (suc k)) h (v .2))
 
   module _ (s′ t n : ℕ) (kids : Forest) (s : ℕ) (p X : List ℕ) (r at k : ℕ) (A B : Sought)
-      (ht : t < 8) (hn : n < 1024) (hs : s′ < 4294967296) (v : Valid limit made (suc (suc r)) 0 kids)
+      (ht : t < 8) (hn : n < 1024) (hs : s′ < 2 ^ 32) (v : Valid limit live (suc (suc r)) 0 kids)
       (inside : seekIn p (flat (suc (suc r)) kids ++ X) (suc r) k (suc k) ≡ A)
       (later : seekIn (s ∷ p) X r at (after kids (suc k)) ≡ B) where
     rank-is : rankOf (pack (suc r) t n s′) ≡ suc r
@@ -103,7 +103,7 @@ module _ (limit made : ℕ) where
     seek-here false e = seek-apart (ltb s s′) refl (eqb-false s′ s e)
 
   -- one pass over a forest's words finds what the forest says
-  pub seek-forest : (f : Forest) (lo : ℕ) (p ws : List ℕ) (r at k : ℕ) → Valid limit made (suc r) lo f → Below (suc r) ws
+  pub seek-forest : (f : Forest) (lo : ℕ) (p ws : List ℕ) (r at k : ℕ) → Valid limit live (suc r) lo f → Below (suc r) ws
       → seekIn p (flat (suc r) f ++ ws) r at k ≡ seekF f p r at k
   unfolding flat seekF
   seek-forest none lo [] ws r at k v u = unfold seekIn in refl
@@ -112,13 +112,13 @@ module _ (limit made : ℕ) where
   seek-forest (level s′ t b kids next) lo (s ∷ p) ws r at k v u =
       rw (append-assoc (flat (suc (suc r)) kids) (flat (suc r) next) ws)
       (seek-here s′ t (length b) kids s p (flat (suc r) next ++ ws) r at k _ _ (v .0 .small) (v .0 .few) (v .0 .fits) (v .1)
-      (seek-forest kids 0 p (flat (suc r) next ++ ws) (suc r) k (suc k) (v .1) (below-flat limit made (suc r) (suc s′) next ws (v .2) u))
+      (seek-forest kids 0 p (flat (suc r) next ++ ws) (suc r) k (suc k) (v .1) (below-flat limit live (suc r) (suc s′) next ws (v .2) u))
       (seek-forest next (suc s′) (s ∷ p) ws r at (after kids (suc k)) (v .2) u)
       (eqb s′ s)
       refl)
 
   -- a segment below all siblings is none of them
-  pub late : (f : Forest) (r lo n s : ℕ) (p : List ℕ) → Valid limit made r lo f → s < lo → levelAt n f (s ∷ p) ≡ refuses 15 n
+  pub late : (f : Forest) (r lo n s : ℕ) (p : List ℕ) → Valid limit live r lo f → s < lo → levelAt n f (s ∷ p) ≡ refuses 15 n
   unfolding levelAt
   late none r lo n s p v h = refl
   late (level s′ t b kids next) r lo n s [] v h =
@@ -148,17 +148,17 @@ lacking-deeper r x p (before j) a h = h ∙ ap (refuses 15) (plus r (length p))
     plus m n = omega arith
 lacking-deeper r x p (missing n) a h = h
 
-module _ (limit made : ℕ) where
-  pub lacks : (f : Forest) (r lo s : ℕ) (p : List ℕ) (at k : ℕ) → Valid limit made (suc r) lo f → lacking r p (seekF f (s ∷ p) r at k) (levelAt r f (s ∷ p))
+module _ (limit : ℕ) (live : ℕ → Bool) where
+  pub lacks : (f : Forest) (r lo s : ℕ) (p : List ℕ) (at k : ℕ) → Valid limit live (suc r) lo f → lacking r p (seekF f (s ∷ p) r at k) (levelAt r f (s ∷ p))
   unfolding seekF levelAt
   lacks none r lo s p at k v = lacking-gone p r k (refuses 15 r) refl
   lacks (level s′ t b kids next) r lo s [] at k v = go (lacks next r (suc s′) s [] at (after kids (suc k)) (v .2)) (eqb s′ s) (ltb s s′) refl
     where
       go : lacking r [] (seekF next (s ∷ []) r at (after kids (suc k))) (levelAt r next (s ∷ [])) → (e d : Bool) → ltb s s′ ≡ d
           → lacking r [] (cond e (seekF kids [] (suc r) k (suc k)) (cond d (gone [] r k) (seekF next (s ∷ []) r at (after kids (suc k)))))
-          (cond e (gives (record { bindings = b; children = kids })) (levelAt r next (s ∷ [])))
+          (cond e (gives (record { segment = s′; typ = t; bindings = b; children = kids })) (levelAt r next (s ∷ [])))
       go l true d h = rw (seek-nil kids (suc r) k (suc k)) tt
-      go l false true h = lacking-gone [] r k (levelAt r next (s ∷ [])) (late limit made next (suc r) (suc s′) r s [] (v .2) (omega (arith, ltb-true s s′ h)))
+      go l false true h = lacking-gone [] r k (levelAt r next (s ∷ [])) (late limit live next (suc r) (suc s′) r s [] (v .2) (omega (arith, ltb-true s s′ h)))
       go l false false h = l
   lacks (level s′ t b kids next) r lo s (x ∷ p) at k v =
       go (lacks kids (suc r) 0 x p k (suc k) (v .1)) (lacks next r (suc s′) s (x ∷ p) at (after kids (suc k)) (v .2)) (eqb s′ s) (ltb s s′) refl
@@ -168,7 +168,7 @@ module _ (limit made : ℕ) where
           → lacking r (x ∷ p) (cond e (seekF kids (x ∷ p) (suc r) k (suc k)) (cond d (gone (x ∷ p) r k) (seekF next (s ∷ x ∷ p) r at (after kids (suc k)))))
           (cond e (levelAt (suc r) kids (x ∷ p)) (levelAt r next (s ∷ x ∷ p)))
       go i l true d h = lacking-deeper r x p (seekF kids (x ∷ p) (suc r) k (suc k)) (levelAt (suc r) kids (x ∷ p)) i
-      go i l false true h = lacking-gone (x ∷ p) r k (levelAt r next (s ∷ x ∷ p)) (late limit made next (suc r) (suc s′) r s (x ∷ p) (v .2) (omega (arith, ltb-true s s′ h)))
+      go i l false true h = lacking-gone (x ∷ p) r k (levelAt r next (s ∷ x ∷ p)) (late limit live next (suc r) (suc s′) r s (x ∷ p) (v .2) (omega (arith, ltb-true s s′ h)))
       go i l false false h = l
 
 -- a longer path is missing where a part of it is

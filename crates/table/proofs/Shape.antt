@@ -1,46 +1,57 @@
 -- What the tests of a tree say, as facts that proofs take apart.
 use mathlib.Core.Path.{_≡_, refl}
-use mathlib.Core.Bool.{Bool, true, false, cond}
-use mathlib.Core.List.{List}
-use Prim.Native.Nat.{ℕ, suc, _/_, _<_, _≤_}
+use mathlib.Core.Bool.{Bool, true, false, cond, _&&_}
+use mathlib.Core.List.{List, _∷_}
+use Prim.Native.Nat.{ℕ, suc, _<_, _≤_, _^_}
 use native.Mathlib.Omega.{arith}
 use lib.Dec.{leb, ltb, eqb}
 use lib.ListN.{length}
 use borrow.Author.Tests.{ltb-true, leb-true, eqb-true, lt-ltb, le-leb}
-use Rattle.name_object.specs.Component.{leadOk, segOk}
-use Rattle.name_object.proofs.Paths.{both}
 use Rattle.table.specs.Tree.{Binding, Forest, none, level}
 use Rattle.table.specs.Valid.{segmentOk, rising, nameOk, countOk, levelOk, forestOk}
+use Rattle.table.proofs.Facts.{both}
+use Rattle.table.proofs.Numbers.{segment-range}
 
 pub clash : {A : Type 0} → true ≡ false → A
 clash e = absurd (let z : _≡_ {A = ℕ} 0 1 = cc in omega arith)
 
-lead-high : (b : ℕ) → leadOk b ≡ true → (64 < b) × (b < 96)
-unfolding leadOk
-lead-high b h = go (eqb b 0x5F) refl h
-  where
-    go : (t : Bool) → eqb b 0x5F ≡ t → cond t true (cond (leb 0x41 b) (leb b 0x5A) false) ≡ true → (64 < b) × (b < 96)
-    go true e k = omega (arith, eqb-true b 0x5F e)
-    go false e k = let g = both (leb 0x41 b) (leb b 0x5A) k in omega (arith, leb-true 0x41 b (g .0), leb-true b 0x5A (g .1))
+-- live handles fit their field of a word
+abbrev pub Small : (ℕ → Bool) → Type 0
+Small live = (h : ℕ) → live h ≡ true → h < 2 ^ 32
 
-pub segment-range : (s : ℕ) → segmentOk s ≡ true → (0 < s) × (s < 4294967296)
-unfolding segmentOk segOk
-segment-range s h = let g = lead-high (s / 16777216) (both _ _ h .0) in omega arith
+-- the tests of one binding, taken apart
+pub record BindingTests (live : ℕ → Bool) (lo : ℕ) (b : Binding) (bs : List Binding) : Type 0 where
+  pub rises : lo ≤ b .segment
+  pub named : segmentOk (b .segment) ≡ true
+  pub alive : live (b .handle) ≡ true
+  pub later : rising live (suc (b .segment)) bs ≡ true
 
-pub record LevelFit (limit made r lo s t : ℕ) (b : List Binding) : Type 0 where
+pub binding-tests : (live : ℕ → Bool) (lo : ℕ) (b : Binding) (bs : List Binding) → rising live lo (b ∷ bs) ≡ true → BindingTests live lo b bs
+unfolding rising
+binding-tests live lo b bs h =
+    let x = both _ (rising live (suc (b .segment)) bs) h in
+    let y = both _ (live (b .handle)) (x .0) in
+    let z = both (leb lo (b .segment)) (segmentOk (b .segment)) (y .0) in
+    record { rises = leb-true _ _ (z .0); named = z .1; alive = y .1; later = x .1 }
+
+pub tests-binding : (live : ℕ → Bool) (lo : ℕ) (b : Binding) (bs : List Binding) → BindingTests live lo b bs → rising live lo (b ∷ bs) ≡ true
+unfolding rising
+tests-binding live lo b bs t = rw (le-leb lo (b .segment) (t .rises), t .named, t .alive) (t .later)
+
+pub record LevelFit (limit : ℕ) (live : ℕ → Bool) (r lo s t : ℕ) (b : List Binding) : Type 0 where
   pub ok : levelOk limit r lo s t (length b) ≡ true
-  pub ordered : rising made 0 b ≡ true
+  pub ordered : rising live 0 b ≡ true
   pub ranked : 0 < r
   pub shallow : r ≤ limit
   pub rises : lo ≤ s
-  pub fits : s < 4294967296
+  pub fits : s < 2 ^ 32
   pub small : t < 8
   pub few : length b < 1024
 
-name-range : (r s t : ℕ) → nameOk r s t ≡ true → (s < 4294967296) × (t < 8)
+name-range : (r s t : ℕ) → nameOk r s t ≡ true → (s < 2 ^ 32) × (t < 8)
 name-range r s t h = go (eqb r 1) h
   where
-    go : (x : Bool) → cond x (cond (eqb s 0) (eqb t 0) false) (cond (segmentOk s) (ltb t 6) false) ≡ true → (s < 4294967296) × (t < 8)
+    go : (x : Bool) → cond x (eqb s 0 && eqb t 0) (segmentOk s && ltb t 6) ≡ true → (s < 2 ^ 32) × (t < 8)
     go true h = let g = both (eqb s 0) (eqb t 0) h in omega (arith, eqb-true s 0 (g .0), eqb-true t 0 (g .1))
     go false h = let g = both (segmentOk s) (ltb t 6) h in omega (arith, segment-range s (g .0), ltb-true t 6 (g .1))
 
@@ -62,38 +73,38 @@ pub record LevelTests (limit r lo s t n : ℕ) : Type 0 where
 pub level-tests : (limit r lo s t n : ℕ) → levelOk limit r lo s t n ≡ true → LevelTests limit r lo s t n
 unfolding levelOk
 level-tests limit r lo s t n h =
-    let a = both (ltb 0 r) _ h in
-    let b = both (leb r limit) _ (a .1) in
-    let c = both (leb lo s) _ (b .1) in
-    let d = both (nameOk r s t) (countOk limit r n) (c .1) in
-    record { ranked = ltb-true 0 r (a .0); shallow = leb-true r limit (b .0); rises = leb-true lo s (c .0); named = d .0; counted = d .1 }
+    let a = both _ (countOk limit r n) h in
+    let b = both _ (nameOk r s t) (a .0) in
+    let c = both _ (leb lo s) (b .0) in
+    let d = both (ltb 0 r) (leb r limit) (c .0) in
+    record { ranked = ltb-true 0 r (d .0); shallow = leb-true r limit (d .1); rises = leb-true lo s (c .1); named = b .1; counted = a .1 }
 
 pub tests-level : (limit r lo s t n : ℕ) → LevelTests limit r lo s t n → levelOk limit r lo s t n ≡ true
 unfolding levelOk
 tests-level limit r lo s t n h = rw (lt-ltb 0 r (h .ranked), le-leb r limit (h .shallow), le-leb lo s (h .rises), h .named) (h .counted)
 
-pub fit : (limit made r lo s t : ℕ) (b : List Binding) → levelOk limit r lo s t (length b) ≡ true → rising made 0 b ≡ true → LevelFit limit made r lo s t b
-fit limit made r lo s t b h o =
+pub fit : (limit : ℕ) (live : ℕ → Bool) (r lo s t : ℕ) (b : List Binding) → levelOk limit r lo s t (length b) ≡ true → rising live 0 b ≡ true → LevelFit limit live r lo s t b
+fit limit live r lo s t b h o =
     let k = level-tests limit r lo s t (length b) h in
     let n = name-range r s t (k .named) in
     record { ok = h; ordered = o; ranked = k .ranked; shallow = k .shallow; rises = k .rises; fits = n .0; small = n .1; few = count-range limit r (length b) (k .counted) }
 
 -- siblings of rank r, their segments from lo on and rising
-abbrev pub Valid : ℕ → ℕ → ℕ → ℕ → Forest → Type 0
-Valid limit made r lo none = Unit {0}
-Valid limit made r lo (level s t b kids next) = LevelFit limit made r lo s t b × Valid limit made (suc r) 0 kids × Valid limit made r (suc s) next
+abbrev pub Valid : ℕ → (ℕ → Bool) → ℕ → ℕ → Forest → Type 0
+Valid limit live r lo none = Unit {0}
+Valid limit live r lo (level s t b kids next) = LevelFit limit live r lo s t b × Valid limit live (suc r) 0 kids × Valid limit live r (suc s) next
 
-pub forest-valid : (limit made r lo : ℕ) (f : Forest) → forestOk limit made r lo f ≡ true → Valid limit made r lo f
+pub forest-valid : (limit : ℕ) (live : ℕ → Bool) (r lo : ℕ) (f : Forest) → forestOk limit live r lo f ≡ true → Valid limit live r lo f
 unfolding forestOk
-forest-valid limit made r lo none h = tt
-forest-valid limit made r lo (level s t b kids next) h =
-    let x = both (levelOk limit r lo s t (length b)) _ h in
-    let y = both (rising made 0 b) _ (x .1) in
-    let z = both (forestOk limit made (suc r) 0 kids) (forestOk limit made r (suc s) next) (y .1) in
-    (fit limit made r lo s t b (x .0) (y .0), forest-valid limit made (suc r) 0 kids (z .0), forest-valid limit made r (suc s) next (z .1))
+forest-valid limit live r lo none h = tt
+forest-valid limit live r lo (level s t b kids next) h =
+    let x = both _ (forestOk limit live r (suc s) next) h in
+    let y = both _ (forestOk limit live (suc r) 0 kids) (x .0) in
+    let z = both (levelOk limit r lo s t (length b)) (rising live 0 b) (y .0) in
+    (fit limit live r lo s t b (z .0) (z .1), forest-valid limit live (suc r) 0 kids (y .1), forest-valid limit live r (suc s) next (x .1))
 
-pub valid-forest : (limit made r lo : ℕ) (f : Forest) → Valid limit made r lo f → forestOk limit made r lo f ≡ true
+pub valid-forest : (limit : ℕ) (live : ℕ → Bool) (r lo : ℕ) (f : Forest) → Valid limit live r lo f → forestOk limit live r lo f ≡ true
 unfolding forestOk
-valid-forest limit made r lo none v = refl
-valid-forest limit made r lo (level s t b kids next) v =
-    rw (v .0 .ok, v .0 .ordered, valid-forest limit made (suc r) 0 kids (v .1), valid-forest limit made r (suc s) next (v .2))
+valid-forest limit live r lo none v = refl
+valid-forest limit live r lo (level s t b kids next) v =
+    rw (v .0 .ok, v .0 .ordered, valid-forest limit live (suc r) 0 kids (v .1), valid-forest limit live r (suc s) next (v .2))

@@ -17,6 +17,7 @@ use Rattle.table.specs.Tree.{Binding, Forest, none, level, bound}
 use Rattle.table.specs.Layout.{pack, rankOf, typeOf, countOf, segOf, bindWord, bindingOf, flat}
 use Rattle.table.specs.Memory.{siblings}
 use Rattle.table.specs.Inside.{noted, scan}
+use Rattle.table.proofs.Facts.{both as both-of, lt-or-le}
 use Rattle.table.proofs.Words.{pack-unpack, words-back, map-take, map-drop}
 use Rattle.table.proofs.Shape.{Valid}
 use Rattle.table.proofs.Decode.{deeper, here, above}
@@ -49,12 +50,12 @@ unfoldable pub unwindB : ℕ → List ℕ → List ℕ → List Binding
 unwindB zero ws bs = []
 unwindB (suc n) ws bs = bound (sibs (suc n) ws bs) ++ unwindB n ws bs
 
-pub record Good (limit made p : ℕ) (low ws bs : List ℕ) : Type 0 where
+pub record Good (limit : ℕ) (live : ℕ → Bool) (p : ℕ) (low ws bs : List ℕ) : Type 0 where
   pub spare : ℕ
   pub words : ws ≡ unwind (suc p) ws bs ++ replicate spare 0
   pub spareB : ℕ
   pub binds : bs ≡ map bindWord (unwindB (suc p) ws bs) ++ replicate spareB 0
-  pub valid : (e : ℕ) → 0 < e → e < p + 2 → Valid limit made e (getD low e 0) (sibs e ws bs)
+  pub valid : (e : ℕ) → 0 < e → e < p + 2 → Valid limit live e (getD low e 0) (sibs e ws bs)
 
 pack-at : (w r : ℕ) → rankOf w ≡ r → pack r (typeOf w) (countOf w) (segOf w) ≡ w
 pack-at w r e = subst (λ (x : ℕ). pack x (typeOf w) (countOf w) (segOf w) ≡ w) e (pack-unpack w)
@@ -112,13 +113,6 @@ module _ (w : ℕ) (ws bs : List ℕ) where
   unfolding unwindB bound
   unwindB-here d e = rw (sibs-here (suc d) w ws bs e, unwindB-deeper d (omega arith)) (simp append-assoc)
 
-lt-or-le : (m n : ℕ) → (m < n) ⊎ (n ≤ m)
-lt-or-le m n = go (ltb m n) refl
-  where
-    go : (t : Bool) → ltb m n ≡ t → (m < n) ⊎ (n ≤ m)
-    go true e = inl (ltb-true m n e)
-    go false e = inr (ltb-false m n e)
-
 pub zeros-are : (bs : List ℕ) → allZero bs ≡ true → bs ≡ replicate (length bs) 0
 unfolding allZero
 zeros-are [] e = refl
@@ -128,14 +122,14 @@ zeros-are (b ∷ bs) e = let a = both (eqb b 0) (allZero bs) e in ap₂ {C = Lis
 split : (p m : ℕ) → m ≤ p → p ≡ (p - m) + m
 split p m h = omega arith
 
-module _ (limit made : ℕ) (w : ℕ) (ws : List ℕ) (p : ℕ) (low bs : List ℕ) (hl : length low ≡ limit + 2) where
+module _ (limit : ℕ) (live : ℕ → Bool) (w : ℕ) (ws : List ℕ) (p : ℕ) (low bs : List ℕ) (hl : length low ≡ limit + 2) where
   unwind-to : (m : ℕ) → m ≤ suc p → rankOf w < m + 1 → unwind (suc p) (w ∷ ws) bs ≡ unwind m (w ∷ ws) bs
   unwind-to m h l = ap (λ (n : ℕ). unwind n (w ∷ ws) bs) (split (suc p) m h) ∙ unwind-above w ws bs (suc p - m) m l
 
   unwindB-to : (m : ℕ) → m ≤ suc p → rankOf w < m + 1 → unwindB (suc p) (w ∷ ws) bs ≡ unwindB m (w ∷ ws) bs
   unwindB-to m h l = ap (λ (n : ℕ). unwindB n (w ∷ ws) bs) (split (suc p) m h) ∙ unwindB-above w ws bs (suc p - m) m l
 
-  good-zero : w ≡ 0 → allZero ws ≡ true → allZero bs ≡ true → Good limit made p low (w ∷ ws) bs
+  good-zero : w ≡ 0 → allZero ws ≡ true → allZero bs ≡ true → Good limit live p low (w ∷ ws) bs
   unfolding unwind unwindB
   good-zero z g k =
       record {
@@ -146,7 +140,7 @@ module _ (limit made : ℕ) (w : ℕ) (ws : List ℕ) (p : ℕ) (low bs : List �
         valid = λ e a b. rw (sibs-above e w ws bs (omega arith)) tt;
       }
 
-  module _ (pass : Passes limit made p low w bs) (g : Good limit made (rankOf w) (noted low w) ws (drop (countOf w) bs)) where
+  module _ (pass : Passes limit live p low w bs) (g : Good limit live (rankOf w) (noted low w) ws (drop (countOf w) bs)) where
     seen : List ℕ
     seen = set low (rankOf w) (segOf w + 1)
 
@@ -162,13 +156,13 @@ module _ (limit made : ℕ) (w : ℕ) (ws : List ℕ) (p : ℕ) (low bs : List �
     unfolding seen
     at-next = getD-set-same seen (rankOf w + 1) 0 0 (rw (length-set low (rankOf w) (segOf w + 1)) (omega (arith, pass .fits .shallow)))
 
-    valid-above : (e : ℕ) → rankOf w < e → Valid limit made e (getD low e 0) (sibs e (w ∷ ws) bs)
+    valid-above : (e : ℕ) → rankOf w < e → Valid limit live e (getD low e 0) (sibs e (w ∷ ws) bs)
     valid-above e h = rw (sibs-above e w ws bs h) tt
 
-    valid-below : (e : ℕ) → 0 < e → e < rankOf w → Valid limit made e (getD low e 0) (sibs e (w ∷ ws) bs)
+    valid-below : (e : ℕ) → 0 < e → e < rankOf w → Valid limit live e (getD low e 0) (sibs e (w ∷ ws) bs)
     valid-below e a h = rw (sibs-deeper e w ws bs h, ← at-low e h) (g .valid e a (omega arith))
 
-    valid-here : Valid limit made (rankOf w) (getD low (rankOf w) 0) (sibs (rankOf w) (w ∷ ws) bs)
+    valid-here : Valid limit live (rankOf w) (getD low (rankOf w) 0) (sibs (rankOf w) (w ∷ ws) bs)
     valid-here =
         rw (sibs-here (rankOf w) w ws bs refl) (
           pass .fits,
@@ -176,10 +170,10 @@ module _ (limit made : ℕ) (w : ℕ) (ws : List ℕ) (p : ℕ) (low bs : List �
           rw (← add-one (segOf w)) (rw at-here at (g .valid (rankOf w) (pass .fits .ranked) (omega arith))),
         )
 
-    good-valid : (e : ℕ) → 0 < e → Valid limit made e (getD low e 0) (sibs e (w ∷ ws) bs)
+    good-valid : (e : ℕ) → 0 < e → Valid limit live e (getD low e 0) (sibs e (w ∷ ws) bs)
     good-valid e a =
         ⊎-elim (λ h. valid-above e h)
-        (λ h. ⊎-elim (λ x. subst (λ (y : ℕ). Valid limit made y (getD low y 0) (sibs y (w ∷ ws) bs)) (sym x) valid-here) (λ x. valid-below e a x) (eq-or-lt-of-le h))
+        (λ h. ⊎-elim (λ x. subst (λ (y : ℕ). Valid limit live y (getD low y 0) (sibs y (w ∷ ws) bs)) (sym x) valid-here) (λ x. valid-below e a x) (eq-or-lt-of-le h))
         (lt-or-le (rankOf w) e)
 
     down : ℕ
@@ -215,7 +209,7 @@ module _ (limit made : ℕ) (w : ℕ) (ws : List ℕ) (p : ℕ) (low bs : List �
         ∙ map-append bindWord (map bindingOf (take (countOf w) bs)) afterB
         ∙ ap (λ (l : List ℕ). l ++ map bindWord afterB) (words-back (take (countOf w) bs))
 
-    good-pass : Good limit made p low (w ∷ ws) bs
+    good-pass : Good limit live p low (w ∷ ws) bs
     unfolding after afterB
     good-pass =
         record {
@@ -230,19 +224,19 @@ module _ (limit made : ℕ) (w : ℕ) (ws : List ℕ) (p : ℕ) (low bs : List �
           valid = λ e a b. good-valid e a;
         }
 
-module _ (limit made w : ℕ) (ws : List ℕ) (ih : (p : ℕ) (low bs : List ℕ) → length low ≡ limit + 2 → scan limit made p low ws bs ≡ true → Good limit made p low ws bs) where
-  sound-word : (t : Bool) → eqb w 0 ≡ t → (p : ℕ) (low bs : List ℕ) → length low ≡ limit + 2 → scan limit made p low (w ∷ ws) bs ≡ true → Good limit made p low (w ∷ ws) bs
+module _ (limit : ℕ) (live : ℕ → Bool) (w : ℕ) (ws : List ℕ) (ih : (p : ℕ) (low bs : List ℕ) → length low ≡ limit + 2 → scan limit live p low ws bs ≡ true → Good limit live p low ws bs) where
+  sound-word : (t : Bool) → eqb w 0 ≡ t → (p : ℕ) (low bs : List ℕ) → length low ≡ limit + 2 → scan limit live p low (w ∷ ws) bs ≡ true → Good limit live p low (w ∷ ws) bs
   sound-word true z p low bs hl e =
       let x = eqb-true w 0 z in
-      let y = both (allZero ws) (allZero bs) (sym (scan-zero limit made p low w ws bs x) ∙ e) in
-      good-zero limit made w ws p low bs hl x (y .0) (y .1)
+      let y = both-of (allZero ws) (allZero bs) (sym (scan-zero limit live p low w ws bs x) ∙ e) in
+      good-zero limit live w ws p low bs hl x (y .0) (y .1)
   sound-word false z p low bs hl e =
-      let x = scan-true limit made p low w ws bs (eqb-false w 0 z) e in
-      good-pass limit made w ws p low bs hl (x .0) (ih (rankOf w) (noted low w) (drop (countOf w) bs) (simp length-set hl) (x .1))
+      let x = scan-true limit live p low w ws bs (eqb-false w 0 z) e in
+      good-pass limit live w ws p low bs hl (x .0) (ih (rankOf w) (noted low w) (drop (countOf w) bs) (simp length-set hl) (x .1))
 
-pub sound : (limit made : ℕ) (ws : List ℕ) (p : ℕ) (low bs : List ℕ) → length low ≡ limit + 2 → scan limit made p low ws bs ≡ true → Good limit made p low ws bs
+pub sound : (limit : ℕ) (live : ℕ → Bool) (ws : List ℕ) (p : ℕ) (low bs : List ℕ) → length low ≡ limit + 2 → scan limit live p low ws bs ≡ true → Good limit live p low ws bs
 unfolding scan
-sound limit made [] p low bs hl e =
+sound limit live [] p low bs hl e =
     record {
       spare = 0;
       words = rw (unwind-nil (suc p) bs);
@@ -250,4 +244,4 @@ sound limit made [] p low bs hl e =
       binds = rw (unwindB-nil (suc p) bs) (zeros-are bs e);
       valid = λ x a b. unfold sibs siblings in tt;
     }
-sound limit made (w ∷ ws) p low bs hl e = sound-word limit made w ws (sound limit made ws) (eqb w 0) refl p low bs hl e
+sound limit live (w ∷ ws) p low bs hl e = sound-word limit live w ws (sound limit live ws) (eqb w 0) refl p low bs hl e

@@ -1,21 +1,21 @@
 -- The three parts of memory hold a valid tree exactly when they pass the test.
 use mathlib.Core.Path.{_≡_, refl, ap, ap₂, sym, subst, _∙_}
-use mathlib.Core.Bool.{Bool, true, false, cond}
+use mathlib.Core.Bool.{Bool, true, false, not, _&&_}
 use mathlib.Core.List.{List, [], _∷_, _++_, append-nil, map}
-use Prim.Native.Nat.{ℕ, zero, suc, _+_, _-_, _≤_}
+use Prim.Native.Nat.{ℕ, zero, suc, _+_, _-_, _≤_, _^_}
 use native.Mathlib.Omega.{arith}
 use lib.Dec.{eqb, leb}
 use lib.ListN.{length, take, drop, getD, replicate, length-append, length-replicate, length-map, take-append-drop}
 use lib.Seq.{drop-at, length-take-le}
-use borrow.Author.Tests.{ne-eqb, le-leb, eqb-false, leb-true}
+use borrow.Author.Tests.{ne-eqb, le-leb, eqb-false, leb-true, ltb-true}
 use Rattle.name_object.specs.Memory.{allZero}
-use Rattle.name_object.proofs.Paths.{both}
+use Rattle.table.proofs.Facts.{both}
 use Rattle.table.specs.Limits.{Limits}
-use Rattle.table.specs.Tree.{Binding, Forest, none, level, Tree, bound, levelCount}
+use Rattle.table.specs.Tree.{Binding, Forest, none, level, Tree, bound, levelCount, isLive}
 use Rattle.table.specs.Layout.{pack, bindWord, flat, pad}
 use Rattle.table.specs.Valid.{forestOk, some, valid}
-use Rattle.table.specs.Inside.{scan, lowest, objectsOk, partsOk}
-use Rattle.table.proofs.Shape.{clash, Valid, forest-valid, valid-forest}
+use Rattle.table.specs.Inside.{scan, lowest, objectsOk, partsOk, below}
+use Rattle.table.proofs.Shape.{clash, Valid, forest-valid, valid-forest, Small}
 use Rattle.table.proofs.Sound.{sibs, unwind, unwindB, Good, sound, zeros-are}
 use Rattle.table.proofs.Complete.{complete, zeros-spare, scan-spare}
 
@@ -27,24 +27,28 @@ level-count (level s t b kids next) r = ap suc (length-append (flat (suc r) kids
 -- the tests of a tree, as facts
 pub record Whole (m : Limits) (t : Tree) : Type 0 where
   pub rooted : some (t .levels) ≡ true
-  pub forest : Valid (m .components) (length (t .objects)) 1 0 (t .levels)
+  pub forest : Valid (m .components) (isLive t) 1 0 (t .levels)
   pub levels : length (flat 1 (t .levels)) ≤ m .levels
   pub bindings : length (bound (t .levels)) ≤ m .bindings
   pub objects : length (t .objects) ≤ m .objects
 
+-- handles that objects have fit their field
+pub small-handles : (m : Limits) (t : Tree) → Whole m t → m .objects ≤ 2 ^ 32 → Small (isLive t)
+small-handles m t w hm h e = omega (arith, w .objects, ltb-true h (length (t .objects)) e)
+
 pub valid-whole : (m : Limits) (t : Tree) → valid m t ≡ true → Whole m t
 unfolding valid
 valid-whole m t h =
-    let a = both (some (t .levels)) _ h in
-    let b = both (forestOk (m .components) (length (t .objects)) 1 0 (t .levels)) _ (a .1) in
-    let c = both (leb (levelCount (t .levels)) (m .levels)) _ (b .1) in
-    let d = both (leb (length (bound (t .levels))) (m .bindings)) (leb (length (t .objects)) (m .objects)) (c .1) in
+    let a = both _ (leb (length (t .objects)) (m .objects)) h in
+    let b = both _ (leb (length (bound (t .levels))) (m .bindings)) (a .0) in
+    let c = both _ (leb (levelCount (t .levels)) (m .levels)) (b .0) in
+    let d = both (some (t .levels)) (forestOk (m .components) (isLive t) 1 0 (t .levels)) (c .0) in
     record {
-      rooted = a .0;
-      forest = forest-valid (m .components) (length (t .objects)) 1 0 (t .levels) (b .0);
-      levels = rw (level-count (t .levels) 1) (leb-true _ _ (c .0));
-      bindings = leb-true _ _ (d .0);
-      objects = leb-true _ _ (d .1);
+      rooted = d .0;
+      forest = forest-valid (m .components) (isLive t) 1 0 (t .levels) (d .1);
+      levels = rw (level-count (t .levels) 1) (leb-true _ _ (c .1));
+      bindings = leb-true _ _ (b .1);
+      objects = leb-true _ _ (a .1);
     }
 
 pub whole-valid : (m : Limits) (t : Tree) → Whole m t → valid m t ≡ true
@@ -52,7 +56,7 @@ unfolding valid
 whole-valid m t w =
     rw (
       w .rooted,
-      valid-forest (m .components) (length (t .objects)) 1 0 (t .levels) (w .forest),
+      valid-forest (m .components) (isLive t) 1 0 (t .levels) (w .forest),
       le-leb (levelCount (t .levels)) (m .levels) (rw (level-count (t .levels) 1) at (w .levels)),
       le-leb (length (bound (t .levels))) (m .bindings) (w .bindings),
     )
@@ -107,7 +111,7 @@ low-at limit r = all (limit + 2) r
     all (suc n) (suc i) = all n i
 
 module _ (m : Limits) (ls bs : List ℕ) (n : ℕ) (vs : List ℕ) (ll : length ls ≡ m .levels) (lb : length bs ≡ m .bindings) (lo : length vs ≡ m .objects)
-    (hn : n ≤ m .objects) (hz : allZero (drop n vs) ≡ true) (h0 : getD ls 0 0 ≡ 0 → ⊥) (g : Good (m .components) n 0 (lowest (m .components)) ls bs) where
+    (hn : n ≤ m .objects) (hz : allZero (drop n vs) ≡ true) (h0 : getD ls 0 0 ≡ 0 → ⊥) (g : Good (m .components) (below n) 0 (lowest (m .components)) ls bs) where
   found : Tree
   found = record { levels = sibs 1 ls bs; objects = take n vs }
 
@@ -132,7 +136,7 @@ module _ (m : Limits) (ls bs : List ℕ) (n : ℕ) (vs : List ℕ) (ll : length 
         whole =
             record {
               rooted = flat-some (sibs 1 ls bs) (g .spare) (λ e. h0 (ap (λ (l : List ℕ). getD l 0 0) level-list ∙ e));
-              forest = subst (λ (k : ℕ). Valid (m .components) k 1 0 (sibs 1 ls bs)) (sym count-is) (rw (low-at (m .components) 1) at (g .valid 1 (omega arith) (omega arith)));
+              forest = subst (λ (k : ℕ). Valid (m .components) (below k) 1 0 (sibs 1 ls bs)) (sym count-is) (rw (low-at (m .components) 1) at (g .valid 1 (omega arith) (omega arith)));
               levels = pad-short (m .levels) ls (flat 1 (sibs 1 ls bs)) (g .spare) level-list ll;
               bindings = rw (length-words (sibs 1 ls bs)) at (pad-short (m .bindings) bs (map bindWord (bound (sibs 1 ls bs))) (g .spareB) bind-list lb);
               objects = rw count-is hn;
@@ -147,29 +151,29 @@ module _ (m : Limits) (ls bs : List ℕ) (ll : length ls ≡ m .levels) (lb : le
   unfolding partsOk objectsOk
   parts-held [] lo h = absurd (let z : _≡_ {A = ℕ} 0 1 = cc in omega arith)
   parts-held (n ∷ vs) lo h =
-      let a = both (cond (leb n (m .objects)) (allZero (drop n vs)) false) _ h in
-      let b = both (leb n (m .objects)) (allZero (drop n vs)) (a .0) in
-      let c = not-first (eqb (getD ls 0 0) 0) refl (a .1) in
-      (_, held-tree m ls bs n vs ll lb (omega arith) (leb-true _ _ (b .0)) (b .1) (c .0) (sound (m .components) n ls 0 (lowest (m .components)) bs (length-lowest (m .components)) (c .1)))
+      let a = both _ (scan (m .components) (below n) 0 (lowest (m .components)) ls bs) h in
+      let d = both (leb n (m .objects) && allZero (drop n vs)) _ (a .0) in
+      let b = both (leb n (m .objects)) (allZero (drop n vs)) (d .0) in
+      (_, held-tree m ls bs n vs ll lb (omega arith) (leb-true _ _ (b .0)) (b .1) (not-first (eqb (getD ls 0 0) 0) refl (d .1)) (sound (m .components) (below n) ls 0 (lowest (m .components)) bs (length-lowest (m .components)) (a .1)))
     where
-      not-first : (x : Bool) {y : Bool} → eqb (getD ls 0 0) 0 ≡ x → cond x false y ≡ true → (getD ls 0 0 ≡ 0 → ⊥) × (y ≡ true)
+      not-first : (x : Bool) → eqb (getD ls 0 0) 0 ≡ x → not x ≡ true → getD ls 0 0 ≡ 0 → ⊥
       not-first true e h = clash (sym h)
-      not-first false e h = (eqb-false _ _ e, h)
+      not-first false e h = eqb-false _ _ e
 
 -- a tree's parts pass
-pos-head : (f : Forest) (z : ℕ) → some f ≡ true → Valid 0 0 1 0 none → (getD (flat 1 f ++ replicate z 0) 0 0 ≡ 0 → ⊥)
+pos-head : (f : Forest) (z : ℕ) → some f ≡ true → (getD (flat 1 f ++ replicate z 0) 0 0 ≡ 0 → ⊥)
 unfolding flat pack
-pos-head none z h v = clash (sym h)
-pos-head (level s t b kids next) z h v = λ e. omega arith
+pos-head none z h = clash (sym h)
+pos-head (level s t b kids next) z h = λ e. omega arith
 
-module _ (m : Limits) (t : Tree) (hm : m .objects ≤ 4294967296) (w : Whole m t) (y z : ℕ) where
-  scan-tree : scan (m .components) (length (t .objects)) 0 (lowest (m .components)) (flat 1 (t .levels) ++ replicate z 0) (map bindWord (bound (t .levels)) ++ replicate y 0) ≡ true
+module _ (m : Limits) (t : Tree) (hm : m .objects ≤ 2 ^ 32) (w : Whole m t) (y z : ℕ) where
+  scan-tree : scan (m .components) (isLive t) 0 (lowest (m .components)) (flat 1 (t .levels) ++ replicate z 0) (map bindWord (bound (t .levels)) ++ replicate y 0) ≡ true
   scan-tree =
-      let a = complete (m .components) (length (t .objects)) (omega (arith, w .objects)) (t .levels) 1 0 0 (lowest (m .components)) (replicate z 0) (replicate y 0)
+      let a = complete (m .components) (isLive t) (small-handles m t w hm) (t .levels) 1 0 0 (lowest (m .components)) (replicate z 0) (replicate y 0)
       (w .forest) (length-lowest (m .components)) (omega arith) (low-at (m .components) 1) in
-      a .goes ∙ scan-spare (m .components) (length (t .objects)) z (a .rank) (a .seen) (replicate y 0) (zeros-spare y)
+      a .goes ∙ scan-spare (m .components) (isLive t) z (a .rank) (a .seen) (replicate y 0) (zeros-spare y)
 
-pub held-parts : (m : Limits) (t : Tree) (ls bs os : List ℕ) → m .objects ≤ 4294967296 → Held m t ls bs os → partsOk m ls bs os ≡ true
+pub held-parts : (m : Limits) (t : Tree) (ls bs os : List ℕ) → m .objects ≤ 2 ^ 32 → Held m t ls bs os → partsOk m ls bs os ≡ true
 unfolding partsOk objectsOk pad
 held-parts m t ls bs os hm h =
     rw (
@@ -179,6 +183,6 @@ held-parts m t ls bs os hm h =
       le-leb (length (t .objects)) (m .objects) (h .whole .objects),
       drop-at (t .objects) (replicate (m .objects - length (t .objects)) 0) (length (t .objects)) refl,
       zeros-spare (m .objects - length (t .objects)),
-      ne-eqb _ 0 (pos-head (t .levels) (m .levels - length (flat 1 (t .levels))) (h .whole .rooted) tt),
+      ne-eqb _ 0 (pos-head (t .levels) (m .levels - length (flat 1 (t .levels))) (h .whole .rooted)),
     )
     (scan-tree m t hm (h .whole) (m .bindings - length (map bindWord (bound (t .levels)))) (m .levels - length (flat 1 (t .levels))))

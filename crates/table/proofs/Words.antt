@@ -1,18 +1,16 @@
 -- Words and their fields: what is packed is read back, for levels and for bindings.
 use mathlib.Core.Path.{_≡_, refl, ap, ap₂}
-use mathlib.Core.Bool.{true}
+use mathlib.Core.Bool.{Bool, true}
 use mathlib.Core.List.{List, [], _∷_, map}
-use Prim.Native.Nat.{ℕ, zero, suc, _/_, _%_, _<_, _≤_}
+use Prim.Native.Nat.{ℕ, zero, suc, _/_, _%_, _^_, _<_}
 use native.Mathlib.Omega.{arith}
 use lib.ListN.{take, drop}
-use lib.Dec.{leb, ltb}
-use borrow.Author.Tests.{ltb-true}
-use Rattle.name_object.proofs.Paths.{both}
 use Rattle.table.specs.Tree.{Binding}
 use Rattle.table.specs.Layout.{pack, rankOf, typeOf, countOf, segOf, bindWord, bindingOf}
-use Rattle.table.specs.Valid.{rising, segmentOk}
+use Rattle.table.specs.Valid.{rising}
+use Rattle.table.proofs.Shape.{Small, binding-tests}
 
-module _ (r t n s : ℕ) (ht : t < 8) (hn : n < 1024) (hs : s < 4294967296) where
+module _ (r t n s : ℕ) (ht : t < 8) (hn : n < 1024) (hs : s < 2 ^ 32) where
   pub rank-pack : rankOf (pack r t n s) ≡ r
   unfolding pack
   rank-pack = omega arith
@@ -40,19 +38,18 @@ same-binding e f = λ i. record { segment = e i; handle = f i }
 pub word-back : (w : ℕ) → bindWord (bindingOf w) ≡ w
 word-back w = omega arith
 
-pub binding-back : (b : Binding) → b .handle < 4294967296 → bindingOf (bindWord b) ≡ b
-binding-back b h = same-binding {s = bindWord b / 4294967296} {h = bindWord b % 4294967296} (omega arith) (omega arith)
+pub binding-back : (b : Binding) → b .handle < 2 ^ 32 → bindingOf (bindWord b) ≡ b
+binding-back b h = same-binding {s = bindWord b / 2 ^ 32} {h = bindWord b % 2 ^ 32} (omega arith) (omega arith)
 
 pub words-back : (ws : List ℕ) → map bindWord (map bindingOf ws) ≡ ws
 words-back [] = refl
 words-back (w ∷ ws) = ap₂ {C = List ℕ} _∷_ (word-back w) (words-back ws)
 
-pub bindings-back : (made lo : ℕ) (bs : List Binding) → made ≤ 4294967296 → rising made lo bs ≡ true → map bindingOf (map bindWord bs) ≡ bs
-unfolding rising
-bindings-back made lo [] h e = refl
-bindings-back made lo (b ∷ bs) h e =
-    let x = both (ltb (b .handle) made) (rising made (suc (b .segment)) bs) (both (segmentOk (b .segment)) _ (both (leb lo (b .segment)) _ e .1) .1) in
-    ap₂ {C = List Binding} _∷_ (binding-back b (omega (arith, ltb-true (b .handle) made (x .0)))) (bindings-back made (suc (b .segment)) bs h (x .1))
+pub bindings-back : (live : ℕ → Bool) (lo : ℕ) (bs : List Binding) → Small live → rising live lo bs ≡ true → map bindingOf (map bindWord bs) ≡ bs
+bindings-back live lo [] h e = refl
+bindings-back live lo (b ∷ bs) h e =
+    let t = binding-tests live lo b bs e in
+    ap₂ {C = List Binding} _∷_ (binding-back b (h (b .handle) (t .alive))) (bindings-back live (suc (b .segment)) bs h (t .later))
 
 -- a part of a list that is mapped
 pub map-take : {A B : Type 0} (f : A → B) (n : ℕ) (l : List A) → map f (take n l) ≡ take n (map f l)

@@ -1,19 +1,19 @@
 -- Each call's work on the tree: the new tree and the answer, or document 01's refusal, in its order. A path is the keys of a normal absolute path.
 use Prim.Native.Nat.{ℕ, suc, _-_}
-use mathlib.Core.Bool.{Bool, true, false, cond}
+use mathlib.Core.Bool.{Bool, false, cond, _||_}
 use mathlib.Core.List.{List, [], _∷_, _++_}
 use lib.Dec.{leb, ltb, eqb}
 use lib.ListN.{length, take, getD, set}
 use Rattle.pkg_length.specs.Refusal.{Answer, gives, refuses, andThen}
 use Rattle.table.specs.Limits.{Limits}
-use Rattle.table.specs.Tree.{Binding, Forest, none, level, Tree, Level, bound, levelCount}
+use Rattle.table.specs.Tree.{Binding, Forest, none, level, Tree, Level, isLive, bound, levelCount}
 use Rattle.table.specs.Memory.{Edited}
 
 -- the level at a path; 15 at the segment that has none, n segments being behind
 unfoldable pub levelAt : ℕ → Forest → List ℕ → Answer Level
 levelAt n none p = refuses 15 n
 levelAt n (level s′ t b kids next) [] = refuses 15 n
-levelAt n (level s′ t b kids next) (s ∷ []) = cond (eqb s′ s) (gives (record { bindings = b; children = kids })) (levelAt n next (s ∷ []))
+levelAt n (level s′ t b kids next) (s ∷ []) = cond (eqb s′ s) (gives (record { segment = s′; typ = t; bindings = b; children = kids })) (levelAt n next (s ∷ []))
 levelAt n (level s′ t b kids next) (s ∷ (x ∷ p)) = cond (eqb s′ s) (levelAt (suc n) kids (x ∷ p)) (levelAt n next (s ∷ (x ∷ p)))
 
 -- what becomes of a level and its later siblings
@@ -41,7 +41,7 @@ isRoot p = leb (length p) 1
 -- whether one of the siblings is s
 unfoldable pub hasLevel : ℕ → Forest → Bool
 hasLevel s none = false
-hasLevel s (level s′ t b kids next) = cond (eqb s′ s) true (hasLevel s next)
+hasLevel s (level s′ t b kids next) = eqb s′ s || hasLevel s next
 
 -- a new level among siblings, in byte order
 unfoldable pub insertLevel : ℕ → ℕ → Forest → Forest
@@ -91,7 +91,7 @@ handleIn s (b ∷ bs) = cond (eqb (b .segment) s) (gives (b .handle)) (handleIn 
 
 unfoldable pub isBound : ℕ → List Binding → Bool
 isBound s [] = false
-isBound s (b ∷ bs) = cond (eqb (b .segment) s) true (isBound s bs)
+isBound s (b ∷ bs) = eqb (b .segment) s || isBound s bs
 
 -- exact lookup: 13, 15, 16
 unfoldable pub lookUp : Tree → List ℕ → Answer ℕ
@@ -128,7 +128,7 @@ addAlias m t p target =
 
 -- 21
 unfoldable pub valueOf : Tree → ℕ → Answer ℕ
-valueOf t h = cond (ltb h (nextHandle t)) (gives (getD (t .objects) h 0)) (refuses 21 0)
+valueOf t h = cond (isLive t h) (gives (getD (t .objects) h 0)) (refuses 21 0)
 
 unfoldable pub setValue : Tree → ℕ → ℕ → Answer Tree
-setValue t h v = cond (ltb h (nextHandle t)) (gives (withObjects t (set (t .objects) h v))) (refuses 21 0)
+setValue t h v = cond (isLive t h) (gives (withObjects t (set (t .objects) h v))) (refuses 21 0)

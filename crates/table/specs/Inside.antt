@@ -1,6 +1,6 @@
 -- What the functions inside promise one another. No public contract rests on these.
-use Prim.Native.Nat.{ℕ, suc, _+_, _-_, _<_, _≤_}
-use mathlib.Core.Bool.{Bool, false, cond}
+use Prim.Native.Nat.{ℕ, suc, _+_, _-_, _^_, _<_, _≤_}
+use mathlib.Core.Bool.{Bool, false, cond, not, _&&_}
 use mathlib.Core.List.{List, [], _∷_, _++_, map}
 use lib.Dec.{leb, ltb, eqb}
 use lib.ListN.{length, take, drop, getD, set, replicate}
@@ -25,23 +25,22 @@ abbrev pub wordOk : ℕ → ℕ → ℕ → Bool
 wordOk limit lo w = levelOk limit (rankOf w) lo (segOf w) (typeOf w) (countOf w)
 
 -- n bindings stand next
-unfoldable pub bindsOk : ℕ → ℕ → List ℕ → Bool
-bindsOk made n bs = cond (leb n (length bs)) (rising made 0 (map bindingOf (take n bs))) false
+unfoldable pub bindsOk : (ℕ → Bool) → ℕ → List ℕ → Bool
+bindsOk live n bs = leb n (length bs) && rising live 0 (map bindingOf (take n bs))
 
 -- a record w after one of rank p: no more than one below it, its own fields, its bindings
-unfoldable pub recordOk : ℕ → ℕ → ℕ → List ℕ → ℕ → List ℕ → Bool
-recordOk limit made p low w bs = cond (leb (rankOf w) (p + 1)) (cond (wordOk limit (getD low (rankOf w) 0) w) (bindsOk made (countOf w) bs) false) false
+unfoldable pub recordOk : ℕ → (ℕ → Bool) → ℕ → List ℕ → ℕ → List ℕ → Bool
+recordOk limit live p low w bs = leb (rankOf w) (p + 1) && wordOk limit (getD low (rankOf w) 0) w && bindsOk live (countOf w) bs
 
 -- after a record: siblings come above its segment, children may have any
 abbrev pub noted : List ℕ → ℕ → List ℕ
 noted low w = set (set low (rankOf w) (segOf w + 1)) (rankOf w + 1) 0
 
 -- p is the rank of the record before, low the least segment that may come at each rank; from the first zero word on all is spare
-unfoldable pub scan : ℕ → ℕ → ℕ → List ℕ → List ℕ → List ℕ → Bool
-scan limit made p low [] bs = allZero bs
-scan limit made p low (w ∷ ws) bs =
-    cond (eqb w 0) (cond (allZero ws) (allZero bs) false)
-    (cond (recordOk limit made p low w bs) (scan limit made (rankOf w) (noted low w) ws (drop (countOf w) bs)) false)
+unfoldable pub scan : ℕ → (ℕ → Bool) → ℕ → List ℕ → List ℕ → List ℕ → Bool
+scan limit live p low [] bs = allZero bs
+scan limit live p low (w ∷ ws) bs =
+    cond (eqb w 0) (allZero ws && allZero bs) (recordOk limit live p low w bs && scan limit live (rankOf w) (noted low w) ws (drop (countOf w) bs))
 
 -- nothing stands at any rank
 unfoldable pub lowest : ℕ → List ℕ
@@ -50,14 +49,16 @@ lowest limit = replicate (limit + 2) 0
 -- the objects' part: how many, their values, spare zeros
 unfoldable pub objectsOk : ℕ → List ℕ → Bool
 objectsOk room [] = false
-objectsOk room (n ∷ vs) = cond (leb n room) (allZero (drop n vs)) false
+objectsOk room (n ∷ vs) = leb n room && allZero (drop n vs)
+
+-- handles below a number
+abbrev pub below : ℕ → ℕ → Bool
+below made h = ltb h made
 
 -- the three parts
 unfoldable pub partsOk : Limits → List ℕ → List ℕ → List ℕ → Bool
 partsOk m ls bs os =
-    cond (objectsOk (m .objects) os)
-    (cond (eqb (getD ls 0 0) 0) false (scan (m .components) (getD os 0 0) 0 (lowest (m .components)) ls bs))
-    false
+    objectsOk (m .objects) os && not (eqb (getD ls 0 0) 0) && scan (m .components) (below (getD os 0 0)) 0 (lowest (m .components)) ls bs
 
 -- Where a path leads, in one pass over the records.
 
@@ -90,10 +91,10 @@ counts (w ∷ ws) = countOf w + counts ws
 
 -- Room made in words.
 
--- the list with c put in front, and its last element gone
+-- the list with c put in front, in place of the first spare word, or else of the last
 unfoldable pub push : ℕ → List ℕ → List ℕ
 push c [] = []
-push c (x ∷ xs) = c ∷ push x xs
+push c (x ∷ xs) = c ∷ cond (eqb x 0) xs (push x xs)
 
 -- A level with all below it is one run of records.
 
@@ -153,7 +154,7 @@ BindingsHeld ls bs = (k : ℕ) → counts (take k ls) + countOf (getD ls k 0) �
 -- the words with one binding more: its level's record counts it, and its word stands at index i of the bindings
 unfoldable pub bindWords : Limits → List ℕ → ℕ → ℕ → ℕ → List ℕ
 bindWords m ws at i x =
-    set (take (m .levels) ws) at (getD ws at 0 + 4294967296)
+    set (take (m .levels) ws) at (getD ws at 0 + 2 ^ 32)
     ++ ((take i (take (m .bindings) (drop (m .levels) ws)) ++ push x (drop i (take (m .bindings) (drop (m .levels) ws))))
     ++ drop (m .levels + m .bindings) ws)
 
@@ -184,7 +185,7 @@ reopened depth rank = cond (leb rank depth) (rank - 1) depth
 
 -- the scope goes on with this segment
 abbrev pub onward : List ℕ → ℕ → ℕ → Bool
-onward p depth s = cond (ltb depth (length p)) (eqb s (getD p depth 0)) false
+onward p depth s = ltb depth (length p) && eqb s (getD p depth 0)
 
 unfoldable pub nearLevelIn : ℕ → List ℕ → List ℕ → ℕ → ℕ → ℕ
 nearLevelIn s p [] depth best = best
@@ -199,4 +200,4 @@ nearLevelIn s p (w ∷ ws) depth best =
 -- a path's keys, as the functions inside take them
 pub record Keyed (p : List ℕ) : Type 0 where
   pub short : length p ≤ componentLimit
-  pub low : (i : ℕ) → getD p i 0 < 4294967296
+  pub low : (i : ℕ) → getD p i 0 < 2 ^ 32

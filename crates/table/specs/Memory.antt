@@ -1,6 +1,6 @@
 -- What memory means: the one tree that is written so, or 24.
 use Prim.Native.Nat.{ℕ, suc, _+_}
-use mathlib.Core.Bool.{Bool, true, false, cond}
+use mathlib.Core.Bool.{Bool, true, false, cond, _&&_}
 use mathlib.Core.List.{List, [], _∷_, map}
 use lib.Dec.{ltb, eqb}
 use lib.ListN.{take, drop, getD}
@@ -31,11 +31,11 @@ unfoldable pub same : List ℕ → List ℕ → Bool
 same [] [] = true
 same [] (y ∷ ys) = false
 same (x ∷ xs) [] = false
-same (x ∷ xs) (y ∷ ys) = cond (eqb x y) (same xs ys) false
+same (x ∷ xs) (y ∷ ys) = eqb x y && same xs ys
 
 -- words are well-formed when they are what a valid tree is written as
 unfoldable pub wellFormed : Limits → List ℕ → Bool
-wellFormed m ws = cond (valid m (decode m ws)) (same (encode m (decode m ws)) ws) false
+wellFormed m ws = valid m (decode m ws) && same (encode m (decode m ws)) ws
 
 unfoldable pub means : Limits → List ℕ → Answer Tree
 means m ws = cond (wellFormed m ws) (gives (decode m ws)) (refuses 24 0)

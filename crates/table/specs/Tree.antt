@@ -1,11 +1,18 @@
 -- The namespace: a tree of typed levels, bindings of a segment at a level to a handle, and objects.
-use Prim.Native.Nat.{ℕ, suc, _+_, _*_}
+use Prim.Native.Nat.{ℕ, suc, _+_, _-_, _*_, _%_}
+use mathlib.Core.Bool.{Bool, cond}
 use mathlib.Core.List.{List, [], _∷_, _++_}
+use lib.Dec.{ltb}
+use lib.ListN.{length}
 use Rattle.name_object.specs.Component.{Component, root, up, seg}
 
--- A segment is its four bytes as one number, the first byte highest: numbers are in byte order.
+-- the characters of a segment are numbered from 0 in the order of their bytes: 0-9, A-Z, `_`
+unfoldable pub charNumber : ℕ → ℕ
+charNumber c = cond (ltb c 0x3A) (c % 16) (cond (ltb c 0x5B) (c - 0x37) 36)
+
+-- A segment is its four characters as one number in base 37, the first character highest: segments are numbered in byte order.
 abbrev pub number : ℕ → ℕ → ℕ → ℕ → ℕ
-number a b c d = a * 16777216 + b * 65536 + c * 256 + d
+number a b c d = ((charNumber a * 37 + charNumber b) * 37 + charNumber c) * 37 + charNumber d
 
 pub record Binding : Type 0 where
   pub segment : ℕ
@@ -21,8 +28,14 @@ pub record Tree : Type 0 where
   pub levels : Forest
   pub objects : List ℕ
 
--- what a level holds
+-- a handle that an object has
+abbrev pub isLive : Tree → ℕ → Bool
+isLive t h = ltb h (length (t .objects))
+
+-- a level with what it holds
 pub record Level : Type 0 where
+  pub segment : ℕ
+  pub typ : ℕ
   pub bindings : List Binding
   pub children : Forest
 

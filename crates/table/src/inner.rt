@@ -1,8 +1,8 @@
 // For the layer above alone, over the parts of a table: what each needs is tested there.
 ghost use mathlib.Core.Path.{_≡_};
-ghost use mathlib.Core.Bool.{true, false, cond};
+ghost use mathlib.Core.Bool.{true, false, cond, _&&_};
 ghost use mathlib.Core.List.{_++_, map};
-ghost use Prim.Native.Nat.{ℕ, _+_, _-_, _<_, _≤_};
+ghost use Prim.Native.Nat.{ℕ, _+_, _-_, _^_, _<_, _≤_};
 ghost use lib.Dec.{eqb};
 ghost use lib.ListN.{length, take, drop, getD, replicate};
 ghost use Rattle.name_object.specs.Component.{componentLimit};
@@ -10,9 +10,28 @@ ghost use Rattle.name_object.specs.Memory.{allZero};
 ghost use Rattle.table.specs.Limits.{limits};
 ghost use Rattle.table.specs.Layout.{bindingOf};
 ghost use Rattle.table.specs.Valid.{segmentOk, nameOk};
-ghost use Rattle.table.specs.Memory.{wellFormed};
-ghost use Rattle.table.specs.Inside.{wordOk, bindsOk, recordOk, scan, lowest, partsOk, seekIn, placed, goneAt, push, counts, subtreeOf, closed, slotIn, spotIn, bindWords, BindingsHeld, nearerOf, nearIn, farthest, reopened, onward, nearLevelIn, Keyed};
+ghost use Rattle.table.specs.Memory.{wellFormed, size};
+ghost use Rattle.table.specs.Inside.{wordOk, bindsOk, recordOk, scan, lowest, below, partsOk, seekIn, placed, goneAt, push, counts, subtreeOf, closed, slotIn, spotIn, bindWords, BindingsHeld, nearerOf, nearIn, farthest, reopened, onward, nearLevelIn, Keyed};
+use crate::layout::BINDINGS;
+use crate::layout::COMPONENTS;
+use crate::layout::COUNT;
+use crate::layout::COUNT_AT;
+use crate::layout::COUNTS;
+use crate::layout::FIRST_SEGMENT;
+use crate::layout::LEVELS;
+use crate::layout::OBJECTS;
+use crate::layout::RANK;
+use crate::layout::SEGMENT;
+use crate::layout::SEGMENTS_END;
+use crate::layout::TYPE;
 use pkg_length::AmlError;
+
+// A rank for each component, none below them, and one past them.
+const RANKS: usize = COMPONENTS + 2;
+// The word before every binding's.
+const BEFORE: u64 = FIRST_SEGMENT * SEGMENT - 1;
+
+const PAST: u64 = SEGMENTS_END * SEGMENT;
 
 // Zero everywhere.
 pub fn clear(xs: &mut [u64])
@@ -27,27 +46,16 @@ pub fn clear(xs: &mut [u64])
 
 // A number is a segment.
 fn seg_ok(s: u64) -> bool
-    requires { ⌜ s < 4294967296 ⌝ }
     ensures { λ r. ⌜ r ≡ segmentOk s ⌝ }
 {
-    if name_object::is_lead_name_char((s / 16777216) as u8) {
-        if name_object::is_name_char((s / 65536 % 256) as u8) {
-            if name_object::is_name_char((s / 256 % 256) as u8) {
-                name_object::is_name_char((s % 256) as u8)
-            } else {
-                false
-            }
-        } else {
-            false
-        }
-    } else {
-        false
+    if s < FIRST_SEGMENT {
+        return false;
     }
+    s < SEGMENTS_END
 }
 
 // The root has no segment and is a Scope; below it, a segment and one of the six types.
 fn name_fits(rank: u64, seg: u64, typ: u64) -> bool
-    requires { ⌜ seg < 4294967296 ⌝ }
     ensures { λ r. ⌜ r ≡ nameOk rank seg typ ⌝ }
 {
     if rank == 1 {
@@ -57,69 +65,30 @@ fn name_fits(rank: u64, seg: u64, typ: u64) -> bool
     }
 }
 
-// A level record's own fields; lo is the least segment that may come.
-fn level_fits(lo: u64, w: u64) -> bool
-    ensures { λ r. ⌜ r ≡ wordOk componentLimit lo w ⌝ }
-{
-    let rank = w / 35184372088832;
-    let seg = w % 4294967296;
-    if rank == 0 {
-        return false;
-    }
-    if 32 < rank {
-        return false;
-    }
-    if seg < lo {
-        return false;
-    }
-    if name_fits(rank, seg, w / 4398046511104 % 8) {
-        if rank < 32 {
-            true
-        } else {
-            w / 4294967296 % 1024 == 0
-        }
-    } else {
-        false
-    }
-}
-
-// The n bindings from index from on are there, rise, and have handles below made.
+// The n bindings from index from on are there, rise, and have handles below made. A word is above the one before it with all bits of the handle set,
+// so its segment is greater; and as they rise, the last segment alone is tested from above.
 fn binds_fit(bindings: &[u64], from: usize, n: usize, made: u64) -> bool
     requires { ⌜ from ≤ length (now bindings) ⌝ }
-    ensures { λ r. ⌜ r ≡ bindsOk made n (drop from (now (bindings .entry))) ⌝ }
+    ensures { λ r. ⌜ r ≡ bindsOk (below made) n (drop from (now (bindings .entry))) ⌝ }
 {
     if bindings.len() - from < n {
         return false;
     }
     let end = from + n;
-    let mut lo = 0;
+    let mut last: u64 = BEFORE;
     let mut i = from;
     while i < end {
-        let seg = bindings[i] / 4294967296;
-        if seg < lo {
+        let w = bindings[i];
+        if w <= last {
             return false;
         }
-        if seg_ok(seg) {
-            if made <= bindings[i] % 4294967296 {
-                return false;
-            }
-            lo = seg + 1;
-        } else {
+        if made <= w % SEGMENT {
             return false;
         }
+        last = w / SEGMENT * SEGMENT + (SEGMENT - 1);
         i += 1;
     }
-    true
-}
-
-// A spare word more.
-fn is_clean(clean: bool, w: u64) -> bool
-    ensures { λ r. ⌜ r ≡ cond clean (eqb w 0) false ⌝ }
-{
-    if clean {
-        return w == 0;
-    }
-    false
+    last < PAST
 }
 
 // Every word from an index on is zero. All are looked at, so that many are taken at a time.
@@ -127,36 +96,56 @@ fn rest_zero(xs: &[u64], from: usize) -> bool
     requires { ⌜ from ≤ length (now xs) ⌝ }
     ensures { λ r. ⌜ r ≡ allZero (drop from (now (xs .entry))) ⌝ }
 {
-    let mut clean = true;
+    let mut seen: u64 = 0;
     let mut i = from;
     while i < xs.len() {
-        clean = is_clean(clean, xs[i]);
+        seen = seen | xs[i];
         i += 1;
     }
-    clean
+    seen == 0
+}
+
+// The deepest level has no bindings, and none is deeper.
+fn deepest_fits(rank: u64, n: u64) -> bool
+    ensures { λ r. ⌜ r ≡ eqb rank componentLimit && eqb n 0 ⌝ }
+{
+    if rank == COMPONENTS as u64 {
+        return n == 0;
+    }
+    false
 }
 
 // A record after one of rank p, with its bindings from index from on; low has the least segment that may come at each rank.
-fn record_fits(w: u64, p: u64, low: &[u64; 34], bindings: &[u64], from: usize, made: u64) -> bool
-    requires { ⌜ (p ≤ 32) × (from ≤ length (now bindings)) ⌝ }
-    ensures { λ r. ⌜ r ≡ recordOk componentLimit made p (now (low .entry)) w (drop from (now (bindings .entry))) ⌝ }
+fn record_fits(w: u64, p: u64, low: &[u64; RANKS], bindings: &[u64], from: usize, made: u64) -> bool
+    requires { ⌜ (p ≤ componentLimit) × (from ≤ length (now bindings)) ⌝ }
+    ensures { λ r. ⌜ r ≡ recordOk componentLimit (below made) p (now (low .entry)) w (drop from (now (bindings .entry))) ⌝ }
 {
-    let rank = w / 35184372088832;
+    let rank = w / RANK;
     if p + 1 < rank {
         return false;
     }
-    if level_fits(low[rank as usize], w) {
-        binds_fit(bindings, from, (w / 4294967296 % 1024) as usize, made)
-    } else {
-        false
+    if rank == 0 {
+        return false;
     }
+    let seg = w % SEGMENT;
+    if seg < low[rank as usize] {
+        return false;
+    }
+    if name_fits(rank, seg, w / TYPE % 8) {
+        let n = w / COUNT % COUNTS;
+        if rank < COMPONENTS as u64 {
+            return binds_fit(bindings, from, n as usize, made);
+        }
+        return deepest_fits(rank, n);
+    }
+    false
 }
 
 // The records and their bindings, in one pass.
 fn scan_levels(levels: &[u64], bindings: &[u64], made: u64) -> bool
-    ensures { λ r. ⌜ r ≡ scan componentLimit made 0 (lowest componentLimit) (now (levels .entry)) (now (bindings .entry)) ⌝ }
+    ensures { λ r. ⌜ r ≡ scan componentLimit (below made) 0 (lowest componentLimit) (now (levels .entry)) (now (bindings .entry)) ⌝ }
 {
-    let mut low = [0u64; 34];
+    let mut low = [0u64; RANKS];
     let mut p: u64 = 0;
     let mut m = 0;
     let mut k = 0;
@@ -169,10 +158,10 @@ fn scan_levels(levels: &[u64], bindings: &[u64], made: u64) -> bool
             return false;
         }
         if record_fits(w, p, &low, bindings, m, made) {
-            p = w / 35184372088832;
-            low[p as usize] = w % 4294967296 + 1;
+            p = w / RANK;
+            low[p as usize] = w % SEGMENT + 1;
             low[p as usize + 1] = 0;
-            m += (w / 4294967296 % 1024) as usize;
+            m += (w / COUNT % COUNTS) as usize;
         } else {
             return false;
         }
@@ -183,11 +172,11 @@ fn scan_levels(levels: &[u64], bindings: &[u64], made: u64) -> bool
 
 // The table's three parts.
 pub fn parts_fit(levels: &[u64], bindings: &[u64], objects: &[u64]) -> bool
-    requires { ⌜ (length (now levels) ≡ 128) × (length (now objects) ≡ 513) ⌝ }
+    requires { ⌜ (length (now levels) ≡ limits .levels) × (length (now objects) ≡ limits .objects + 1) ⌝ }
     ensures { λ r. ⌜ r ≡ partsOk limits (now (levels .entry)) (now (bindings .entry)) (now (objects .entry)) ⌝ }
 {
     let made = objects[0];
-    if 512 < made {
+    if (OBJECTS as u64) < made {
         return false;
     }
     if rest_zero(objects, made as usize + 1) {
@@ -201,7 +190,7 @@ pub fn parts_fit(levels: &[u64], bindings: &[u64], objects: &[u64]) -> bool
     }
 }
 
-// Puts w at index at, and moves what stood from there on up by one; the last word is lost.
+// Puts w at index at, and moves what stood from there on up by one, into the first spare word; where there is none, the last word is lost.
 pub fn make_room(xs: &mut [u64], at: usize, w: u64)
     requires { ⌜ at ≤ length (now xs) ⌝ }
     ensures { λ _. ⌜ now (xs .exit) ≡ take at (now (xs .entry)) ++ push w (drop at (now (xs .entry))) ⌝ }
@@ -211,6 +200,9 @@ pub fn make_room(xs: &mut [u64], at: usize, w: u64)
     while i < xs.len() {
         let x = xs[i];
         xs[i] = c;
+        if x == 0 {
+            return;
+        }
         c = x;
         i += 1;
     }
@@ -258,7 +250,7 @@ fn gone_at(n: usize, j: usize, k: usize) -> Sought
 
 // Where the path's level stands, or would stand, in one pass over the records.
 pub fn seek(levels: &[u64], path: &[u64]) -> Sought
-    requires { ⌜ length (now levels) ≤ 128 ⌝ }
+    requires { ⌜ length (now levels) ≤ limits .levels ⌝ }
     ensures { λ r. ⌜ r ≡ placed (now (levels .entry)) (seekIn (now (path .entry)) (now (levels .entry)) 0 0 0) ⌝ }
 {
     let mut at = 0;
@@ -271,12 +263,12 @@ pub fn seek(levels: &[u64], path: &[u64]) -> Sought
             return gone_at(path.len(), j, k);
         }
         let w = levels[k];
-        let rank = w / 35184372088832;
+        let rank = w / RANK;
         if rank <= j as u64 {
             return gone_at(path.len(), j, k);
         }
         if rank == j as u64 + 1 {
-            let seg = w % 4294967296;
+            let seg = w % SEGMENT;
             let want = path[j];
             if seg == want {
                 at = k;
@@ -288,7 +280,7 @@ pub fn seek(levels: &[u64], path: &[u64]) -> Sought
                 }
             }
         }
-        m += (w / 4294967296 % 1024) as usize;
+        m += (w / COUNT % COUNTS) as usize;
         k += 1;
     }
     Sought::Here(at, from)
@@ -302,17 +294,17 @@ pub struct Run {
 
 // The level at index j, whose first binding stands at index from.
 pub fn subtree(levels: &[u64], j: usize, from: usize) -> Run
-    requires { ⌜ (j < length (now levels)) × (length (now levels) ≤ 128) × (from ≡ counts (take j (now levels))) ⌝ }
+    requires { ⌜ (j < length (now levels)) × (length (now levels) ≤ limits .levels) × (from ≡ counts (take j (now levels))) ⌝ }
     ensures { λ r. ⌜ r ≡ subtreeOf (now (levels .entry)) j ⌝ }
 {
-    let rank = levels[j] / 35184372088832;
+    let rank = levels[j] / RANK;
     let mut e = j + 1;
-    let mut to = from + (levels[j] / 4294967296 % 1024) as usize;
+    let mut to = from + (levels[j] / COUNT % COUNTS) as usize;
     while e < levels.len() {
-        if levels[e] / 35184372088832 <= rank {
+        if levels[e] / RANK <= rank {
             return Run { end: e, to };
         }
-        to += (levels[e] / 4294967296 % 1024) as usize;
+        to += (levels[e] / COUNT % COUNTS) as usize;
         e += 1;
     }
     Run { end: e, to }
@@ -335,9 +327,9 @@ fn find_slot(bindings: &[u64], from: usize, n: usize, seg: u64) -> Slot
     let mut i = from;
     while i < end {
         let b = bindings[i];
-        let here = b / 4294967296;
+        let here = b / SEGMENT;
         if here == seg {
-            return Slot::Bound(b % 4294967296);
+            return Slot::Bound(b % SEGMENT);
         }
         if seg < here {
             return Slot::Free(i);
@@ -357,14 +349,14 @@ pub enum Spot {
 }
 
 fn find_spot_in(levels: &[u64], bindings: &[u64], path: &[u64]) -> Spot
-    requires { ⌜ (length (now levels) ≡ 128) × (1 < length (now path)) × BindingsHeld (now levels) (now bindings) ⌝ }
+    requires { ⌜ (length (now levels) ≡ limits .levels) × (1 < length (now path)) × BindingsHeld (now levels) (now bindings) ⌝ }
     ensures { λ r. ⌜ r ≡ spotIn (now (levels .entry)) (now (bindings .entry)) (now (path .entry)) ⌝ }
 {
     let n = path.len() - 1;
     let found = seek(levels, &path[..n]);
     match found {
         Sought::Here(at, from) => {
-            let count = (levels[at] / 4294967296 % 1024) as usize;
+            let count = (levels[at] / COUNT % COUNTS) as usize;
             let seen = find_slot(bindings, from, count, path[n]);
             match seen {
                 Slot::Bound(h) => Spot::Bound(h),
@@ -378,21 +370,21 @@ fn find_spot_in(levels: &[u64], bindings: &[u64], path: &[u64]) -> Spot
 
 pub fn find_spot(table: &[u64], path: &[u64]) -> Spot
     requires { ⌜ (wellFormed limits (now table) ≡ true) × Keyed (now path) ⌝ }
-    ensures { λ r. ⌜ r ≡ spotIn (take 128 (now (table .entry))) (take 512 (drop 128 (now (table .entry)))) (now (path .entry)) ⌝ }
+    ensures { λ r. ⌜ r ≡ spotIn (take (limits .levels) (now (table .entry))) (take (limits .bindings) (drop (limits .levels) (now (table .entry)))) (now (path .entry)) ⌝ }
 {
     if path.len() <= 1 {
         return Spot::Refused(AmlError::RootNotAllowed);
     }
-    find_spot_in(&table[..128], &table[128..640], path)
+    find_spot_in(&table[..LEVELS], &table[LEVELS..COUNT_AT], path)
 }
 
 // One binding more, of the level whose record stands at index at; its word goes to index i of the bindings.
 pub fn bind(table: &mut [u64], at: usize, i: usize, word: u64)
-    requires { ⌜ (length (now table) ≡ 1153) × (at < 128) × (i ≤ 512) × (getD (now table) at 0 + 4294967296 < 18446744073709551616) ⌝ }
+    requires { ⌜ (length (now table) ≡ size limits) × (at < limits .levels) × (i ≤ limits .bindings) × (getD (now table) at 0 + 2 ^ 32 < 2 ^ 64) ⌝ }
     ensures { λ _. ⌜ now (table .exit) ≡ bindWords limits (now (table .entry)) at i word ⌝ }
 {
-    table[at] += 4294967296;
-    make_room(&mut table[128..640], i, word);
+    table[at] += COUNT;
+    make_room(&mut table[LEVELS..COUNT_AT], i, word);
 }
 
 // The innermost scope that holds a segment: how many components it has, 0 for none, and the handle.
@@ -415,7 +407,7 @@ fn nearer(bindings: &[u64], from: usize, n: usize, seg: u64, depth: usize, out: 
 
 // Down the scope's levels in one pass over the records, remembering the nearest binding on the way.
 pub fn nearest_value(levels: &[u64], bindings: &[u64], scope: &[u64], seg: u64) -> Nearest
-    requires { ⌜ (length (now levels) ≤ 128) × BindingsHeld (now levels) (now bindings) ⌝ }
+    requires { ⌜ (length (now levels) ≤ limits .levels) × BindingsHeld (now levels) (now bindings) ⌝ }
     ensures { λ r. ⌜ r ≡ nearIn seg (now (scope .entry)) (now (levels .entry)) (now (bindings .entry)) 0 0 farthest ⌝ }
 {
     let mut best = Nearest {
@@ -430,13 +422,13 @@ pub fn nearest_value(levels: &[u64], bindings: &[u64], scope: &[u64], seg: u64) 
             return best;
         }
         let w = levels[k];
-        let rank = w / 35184372088832;
+        let rank = w / RANK;
         if rank <= j as u64 {
             return best;
         }
-        let n = (w / 4294967296 % 1024) as usize;
+        let n = (w / COUNT % COUNTS) as usize;
         if rank == j as u64 + 1 {
-            let here = w % 4294967296;
+            let here = w % SEGMENT;
             let want = scope[j];
             if here == want {
                 j += 1;
@@ -489,13 +481,13 @@ pub fn nearest_level(levels: &[u64], scope: &[u64], seg: u64) -> usize
     let mut k = 0;
     while k < levels.len() {
         let w = levels[k];
-        let rank = (w / 35184372088832) as usize;
+        let rank = (w / RANK) as usize;
         if rank <= best {
             return best;
         }
         depth = reopen(depth, rank);
         if rank == depth + 1 {
-            let here = w % 4294967296;
+            let here = w % SEGMENT;
             best = choose(here == seg, depth, best);
             depth = choose(goes_on(scope, depth, here), rank, depth);
         }

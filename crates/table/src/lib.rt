@@ -4,13 +4,19 @@ ghost use Rattle.table.specs.Limits.{limits};
 ghost use Rattle.table.specs.Memory.{wellFormed};
 
 pub mod inner;
+pub mod layout;
+pub mod segments;
 
 // Whether the memory holds a table.
 pub fn well_formed(table: &[u64]) -> bool
     ensures { λ r. ⌜ r ≡ wellFormed limits (now (table .entry)) ⌝ }
 {
-    if table.len() == 1153 {
-        inner::parts_fit(&table[..128], &table[128..640], &table[640..])
+    if table.len() == layout::WORDS {
+        inner::parts_fit(
+            &table[..layout::LEVELS],
+            &table[layout::LEVELS..layout::COUNT_AT],
+            &table[layout::COUNT_AT..],
+        )
     } else {
         false
     }

@@ -14,14 +14,12 @@ read-requires c κs = sym (c .before .well-formed .ensures) ∙ c .if1 .taken
 returns : tie.Need-returns
 unfolding getCall
 returns c =
-    let ws = c .before .before .before .before .args .table .now in
-    c .read .ensures ∙ mean-given limits ws (λ t. valueOf t (c .before .before .before .before .args .handle .0)) (sym (c .before .before .well-formed .ensures) ∙ c .before .if1 .taken)
+    c .read .ensures ∙ mean-given limits (c .before .before .before .before .args .table .now) (λ t. valueOf t (c .before .before .before .before .args .handle .0)) (sym (c .before .before .well-formed .ensures) ∙ c .before .if1 .taken)
 
 returns-2 : tie.Need-returns-2
 unfolding getCall
 returns-2 c =
-    let ws = c .before .before .before .args .table .now in
-    mean-bad limits ws (λ t. valueOf t (c .before .before .before .args .handle .0)) (sym (c .before .well-formed .ensures) ∙ c .if1 .left)
+    mean-bad limits (c .before .before .before .args .table .now) (λ t. valueOf t (c .before .before .before .args .handle .0)) (sym (c .before .well-formed .ensures) ∙ c .if1 .left)
 
 pub get-spec : {M : Type 1} → statement M
 get-spec = tie.close (tie.spec (λ c κs. search needs) read-requires returns returns-2)

@@ -17,8 +17,7 @@ slice-write-table c =
 
 returns : tie.Need-returns
 returns c =
-    let ws = c .before .before .before .before .before .before .args .table .now in
-    ap (λ (l : List ℕ). record { words = set l 0 35184372088832; said = gives tt }) (c .before .before .clear .ensures) ∙ new-made limits ws (omega arith) (c .before .before .before .before .if1 .taken)
+    ap (λ (l : List ℕ). record { words = set l 0 35184372088832; said = gives tt }) (c .before .before .clear .ensures) ∙ new-made limits (c .before .before .before .before .before .before .args .table .now) (omega arith) (c .before .before .before .before .if1 .taken)
 
 returns-2 : tie.Need-returns-2
 returns-2 c = new-refused limits (c .before .before .args .table .now) (c .if1 .left)

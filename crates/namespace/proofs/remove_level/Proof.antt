@@ -1,87 +1,49 @@
--- 24, what the path is refused with, and then the edit of the tree.
+-- 24, what the path is refused with, and then the work on the tree.
 use mathlib.Core.Path.{_≡_, ap, sym, _∙_}
-use mathlib.Core.List.{List}
-use Prim.Native.Nat.{ℕ}
 use lib.ListN.{length}
 use lib.Seq.{length-take-le}
 use Rattle.name_object.specs.Component.{componentLimit}
 use Rattle.table.specs.Limits.{limits}
-use Rattle.table.specs.Memory.{decode, left, done}
+use Rattle.table.specs.Memory.{left, done}
 use Rattle.table.specs.Edits.{removeLevel}
 use Rattle.namespace.specs.Calls.{settledKeys, removeLevelCall}
-use Rattle.namespace.proofs.Keys.{settled-kept, settled-count, kept-keyed, settled-done, settled-refused}
-use Rattle.namespace.proofs.Calls.{call-bad, call-given, call-refused, left-kept}
+use Rattle.namespace.proofs.Calls.{call-given, call-refused, left-kept}
 use borrow.Author.Needs.{needs}
 use native.Mathlib.Omega.{arith}
 use Rattle.namespace.proofs.remove_level.Statement.{statement}
 use Rattle.namespace.proofs.remove_level.Tie as tie
 
-keys-of-requires : tie.Need-keys-of-requires
-keys-of-requires c κs =
-    (settled-done (c .before .before .before .before .before .before .before .before .args .path) (c .before .before .before .settled .result) (c .before .before .before .settled .ensures) (c .before .enum-told .given .1)) .0
-
 array-share-prefix-keys : tie.Need-array-share-prefix-keys
 array-share-prefix-keys c =
-    let c3 = c .before .before .before in
-    let c5 = c3 .before .before in
-    let c10 = c5 .before .before .before .before .before in
-    let n = settled-count (c5 .settled .result .name) ((settled-done (c10 .args .path) (c5 .settled .result) (c5 .settled .ensures) (c3 .enum-told .given .1)) .0) in
-    let len : length (c .before .keys-of .result) ≡ 32 = search needs in
-    omega arith
+    let len : length (c .before .before .before .before .keyed .result .keys) ≡ 32 = search needs in
+    omega (arith, c .before .before .before .before .keyed .ensures .given (c .before .before .enum-told .given .1) .1 .short)
 
 slice-aggregate-remove-level : tie.Need-slice-aggregate-remove-level
 slice-aggregate-remove-level c =
-    let c4 = c .before .before .before .before in
-    let c6 = c4 .before .before in
-    let c11 = c6 .before .before .before .before .before in
-    let n = settled-count (c6 .settled .result .name) ((settled-done (c11 .args .path) (c6 .settled .result) (c6 .settled .ensures) (c4 .enum-told .given .1)) .0) in
-    let len : length (c .before .before .keys-of .result) ≡ 32 = search needs in
-    sym (length-take-le (c6 .settled .result .name .count) (c .before .before .keys-of .result) (omega arith))
+    let len : length (c .before .before .before .before .before .keyed .result .keys) ≡ 32 = search needs in
+    sym (length-take-le (c .before .before .before .before .before .keyed .result .count) (c .before .before .before .before .before .keyed .result .keys) (omega (arith, c .before .before .before .before .before .keyed .ensures .given (c .before .before .before .enum-told .given .1) .1 .short)))
 
 remove-level-requires : tie.Need-remove-level-requires
 remove-level-requires c κs =
-    let c4 = c .before .before .before .before in
-    let c6 = c4 .before .before in
-    let c7 = c6 .before in
-    let c8 = c7 .before in
-    let c11 = c8 .before .before .before in (
-      sym (c8 .well-formed .ensures) ∙ c7 .if1 .taken,
-      rw (c .before .before .keys-of .ensures)
-          (kept-keyed componentLimit _ (settled-kept (c6 .settled .result .name) ((settled-done (c11 .args .path) (c6 .settled .result) (c6 .settled .ensures) (c4 .enum-told .given .1)) .0)) (omega arith)),
-    )
+    let g = c .before .before .before .before .before .keyed .ensures .given (c .before .before .before .enum-told .given .1) in
+    (g .0, g .1 .keyed)
 
 returns : tie.Need-returns
 unfolding removeLevelCall
 returns c =
-    let c3 = c .before .before .before in
-    let c4 = c3 .before in
-    let c5 = c4 .before in
-    let c8 = c5 .before .before .before in
-    let ws = c8 .args .table .now in
-    left-kept limits ws _ _ _ (call-refused limits ws (λ t p. done (removeLevel t p)) (settledKeys componentLimit (c8 .args .path)) (sym (c5 .well-formed .ensures) ∙ c4 .if1 .taken) (c .before .said .given .0 .0)
-    (settled-refused (c8 .args .path) (c3 .settled .result) (c3 .settled .ensures) (c .before .said .given .0 .0) (c .before .said .given .1)))
+    let ws = c .before .before .before .before .before .before .args .table .now in
+    left-kept limits ws _ _ _
+    (call-refused limits ws (settledKeys componentLimit (c .before .before .before .before .before .before .args .path)) (c .before .before .before .keyed .result) (c .before .before .before .keyed .ensures) (λ t p. done (removeLevel t p))
+    (c .before .said .given .0 .0) (c .before .said .given .1))
 
 returns-2 : tie.Need-returns-2
 unfolding removeLevelCall
 returns-2 c =
-    let c5 = c .before .before .before .before .before in
-    let c7 = c5 .before .before in
-    let c9 = c7 .before .before in
-    let c10 = c9 .before in
-    let c11 = c10 .before in
-    let c14 = c11 .before .before .before in
-    let ws = c14 .args .table .now in
-    c .before .before .remove-level .ensures ∙ ap (λ (p : List ℕ). left limits ws (done (removeLevel (decode limits ws) p))) (c5 .keys-of .ensures)
-    ∙ ap (left limits ws) (call-given limits ws (λ t p. done (removeLevel t p)) (settledKeys componentLimit (c14 .args .path)) (sym (c11 .well-formed .ensures) ∙ c10 .if1 .taken) _
-    ((settled-done (c14 .args .path) (c9 .settled .result) (c9 .settled .ensures) (c7 .enum-told .given .1)) .1))
-
-returns-3 : tie.Need-returns-3
-unfolding removeLevelCall
-returns-3 c =
-    let ws = c .before .before .before .before .args .table .now in
-    left-kept limits ws _ _ _ (call-bad limits ws (λ t p. done (removeLevel t p)) (settledKeys componentLimit (c .before .before .before .before .args .path)) (sym (c .before .well-formed .ensures) ∙ c .if1 .left))
+    let ws = c .before .before .before .before .before .before .before .before .before .before .before .args .table .now in
+    c .before .before .remove-level .ensures
+    ∙ ap (left limits ws) (call-given limits ws (settledKeys componentLimit (c .before .before .before .before .before .before .before .before .before .before .before .args .path)) (c .before .before .before .before .before .before .before .before .keyed .result) (c .before .before .before .before .before .before .before .before .keyed .ensures) (λ t p. done (removeLevel t p)) (c .before .before .before .before .before .before .enum-told .given .1))
 
 pub remove-level-spec : {M : Type 1} → statement M
 remove-level-spec =
-    tie.close (tie.spec (λ c κs. search needs) (λ c κs. search needs) (λ c. search needs) (λ c. search needs) keys-of-requires array-share-prefix-keys
-    slice-aggregate-remove-level remove-level-requires (λ c. search needs) returns (λ c. search needs) returns-2 (λ c. search needs) returns-3)
+    tie.close (tie.spec (λ c κs. search needs) (λ c. search needs) (λ c. search needs) array-share-prefix-keys slice-aggregate-remove-level
+    remove-level-requires (λ c. search needs) returns (λ c. search needs) returns-2)

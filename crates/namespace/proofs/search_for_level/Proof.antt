@@ -20,13 +20,11 @@ returns-2 c =
     let c3 = c .before .before .before in
     let c4 = c3 .before in
     let c6 = c4 .before .before in
-    let ws = c6 .args .table .now in
-    c .no-level .ensures ∙ ap (told componentLimit) (level-path limits ws (c6 .args .level-name) (c6 .args .starting-scope) (sym (c4 .well-formed .ensures) ∙ c3 .if1 .taken) (sym (c .before .before .is-path .ensures) ∙ c .before .if2 .left))
+    c .no-level .ensures ∙ ap (told componentLimit) (level-path limits (c6 .args .table .now) (c6 .args .level-name) (c6 .args .starting-scope) (sym (c4 .well-formed .ensures) ∙ c3 .if1 .taken) (sym (c .before .before .is-path .ensures) ∙ c .before .if2 .left))
 
 returns-3 : tie.Need-returns-3
 returns-3 c =
-    let ws = c .before .before .before .before .args .table .now in
-    c .no-level2 .ensures ∙ ap (told componentLimit) (level-bad limits ws (c .before .before .before .before .args .level-name) (c .before .before .before .before .args .starting-scope) (sym (c .before .before .well-formed .ensures) ∙ c .before .if1 .left))
+    c .no-level2 .ensures ∙ ap (told componentLimit) (level-bad limits (c .before .before .before .before .args .table .now) (c .before .before .before .before .args .level-name) (c .before .before .before .before .args .starting-scope) (sym (c .before .before .well-formed .ensures) ∙ c .before .if1 .left))
 
 pub search-for-level-spec : {M : Type 1} → statement M
 search-for-level-spec =

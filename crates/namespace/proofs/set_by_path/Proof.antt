@@ -15,8 +15,7 @@ unfolding getHandleCall
 write-requires c κs =
     let c4 = c .before .before .before .before in
     let c7 = c4 .before .before .before in
-    let ws = c7 .args .table .now in
-    call-formed limits ws (settledKeys componentLimit (c7 .args .path)) (λ t p. lookUp t p) (λ t h. done (setValue t h (c7 .args .value))) (c .before .before .found .given .0 .0 .0)
+    call-formed limits (c7 .args .table .now) (settledKeys componentLimit (c7 .args .path)) (λ t p. lookUp t p) (λ t h. done (setValue t h (c7 .args .value))) (c .before .before .found .given .0 .0 .0)
     (sym (ap handleSaid (c .before .before .found .given .1)) ∙ c4 .get-handle .ensures)
 
 returns : tie.Need-returns

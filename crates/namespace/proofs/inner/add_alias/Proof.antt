@@ -16,8 +16,7 @@ use Rattle.namespace.proofs.inner.add_alias.Tie as tie
 
 slice-read-if1 : tie.Need-slice-read-if1
 slice-read-if1 c =
-    let ws = c .before .before .before .before .before .before .before .before .before .before .before .before .before .before .args .table .now in
-    omega (arith, long limits (omega arith) ws (c .before .before .before .before .before .before .before .before .before .before .before .before .before .before .pre .0))
+    omega (arith, long limits (omega arith) (c .before .before .before .before .before .before .before .before .before .before .before .before .before .before .args .table .now) (c .before .before .before .before .before .before .before .before .before .before .before .before .before .before .pre .0))
 
 returns : tie.Need-returns
 returns c =
@@ -26,8 +25,7 @@ returns c =
     let c8 = c5 .before .before .before in
     let c10 = c8 .before .before in
     let c15 = c10 .before .before .before .before .before in
-    let ws = c15 .args .table .now in
-    aliased-full limits (omega arith) ws (c15 .pre .0) (c15 .args .path .now) (c5 .find-spot .result) (c5 .find-spot .ensures) (c15 .args .target .now) (c8 .aim2 .given .0 .0 .0)
+    aliased-full limits (omega arith) (c15 .args .table .now) (c15 .pre .0) (c15 .args .path .now) (c5 .find-spot .result) (c5 .find-spot .ensures) (c15 .args .target .now) (c8 .aim2 .given .0 .0 .0)
     (sym (ap handleSaid (c8 .aim2 .given .1)) ∙ c10 .look-up .ensures) (omega arith) (c3 .found2 .given .0 .0) (c3 .found2 .given .0 .1 .0) (c3 .found2 .given .1) (c .if1 .taken)
 
 sub-bind : tie.Need-sub-bind
@@ -35,24 +33,21 @@ sub-bind c =
     let c4 = c .before .before .before .before in
     let c6 = c4 .before .before in
     let c16 = c6 .before .before .before .before .before .before .before .before .before .before in
-    let ws = c16 .args .table .now in
-    omega (arith, (spot-open limits (omega arith) ws (c16 .pre .0) (c16 .args .path .now) (c6 .find-spot .result) (c6 .find-spot .ensures) (c4 .found2 .given .0 .0) (c4 .found2 .given .0 .1 .0) (c4 .found2 .given .1)) .more, c16 .pre .1 .short)
+    omega (arith, (spot-open limits (omega arith) (c16 .args .table .now) (c16 .pre .0) (c16 .args .path .now) (c6 .find-spot .result) (c6 .find-spot .ensures) (c4 .found2 .given .0 .0) (c4 .found2 .given .0 .1 .0) (c4 .found2 .given .1)) .more, c16 .pre .1 .short)
 
 mul-bind : tie.Need-mul-bind
 mul-bind c =
     let c4 = c .before .before .before .before in
     let c6 = c4 .before .before in
     let c16 = c6 .before .before .before .before .before .before .before .before .before .before in
-    let ws = c16 .args .table .now in
-    omega (arith, (spot-open limits (omega arith) ws (c16 .pre .0) (c16 .args .path .now) (c6 .find-spot .result) (c6 .find-spot .ensures) (c4 .found2 .given .0 .0) (c4 .found2 .given .0 .1 .0) (c4 .found2 .given .1)) .more, c16 .pre .1 .short)
+    omega (arith, (spot-open limits (omega arith) (c16 .args .table .now) (c16 .pre .0) (c16 .args .path .now) (c6 .find-spot .result) (c6 .find-spot .ensures) (c4 .found2 .given .0 .0) (c4 .found2 .given .0 .1 .0) (c4 .found2 .given .1)) .more, c16 .pre .1 .short)
 
 shared-slice-read-bind : tie.Need-shared-slice-read-bind
 shared-slice-read-bind c =
     let c5 = c .before .before .before .before .before in
     let c7 = c5 .before .before in
     let c17 = c7 .before .before .before .before .before .before .before .before .before .before in
-    let ws = c17 .args .table .now in
-    omega (arith, (spot-open limits (omega arith) ws (c17 .pre .0) (c17 .args .path .now) (c7 .find-spot .result) (c7 .find-spot .ensures) (c5 .found2 .given .0 .0) (c5 .found2 .given .0 .1 .0) (c5 .found2 .given .1)) .more, c17 .pre .1 .short)
+    omega (arith, (spot-open limits (omega arith) (c17 .args .table .now) (c17 .pre .0) (c17 .args .path .now) (c7 .find-spot .result) (c7 .find-spot .ensures) (c5 .found2 .given .0 .0) (c5 .found2 .given .0 .1 .0) (c5 .found2 .given .1)) .more, c17 .pre .1 .short)
 
 mul-bind-2 : tie.Need-mul-bind-2
 mul-bind-2 c =
@@ -93,8 +88,7 @@ returns-3 c =
     let c6 = c3 .before .before .before in
     let c8 = c6 .before .before in
     let c13 = c8 .before .before .before .before .before in
-    let ws = c13 .args .table .now in
-    aliased-refused limits (omega arith) ws (c13 .pre .0) (c13 .args .path .now) (c3 .find-spot .result) (c3 .find-spot .ensures) (c13 .args .target .now) (c6 .aim2 .given .0 .0 .0)
+    aliased-refused limits (omega arith) (c13 .args .table .now) (c13 .pre .0) (c13 .args .path .now) (c3 .find-spot .result) (c3 .find-spot .ensures) (c13 .args .target .now) (c6 .aim2 .given .0 .0 .0)
     (sym (ap handleSaid (c6 .aim2 .given .1)) ∙ c8 .look-up .ensures) (c .before .found .given .0 .0) (c .before .found .given .1)
 
 returns-4 : tie.Need-returns-4
@@ -102,8 +96,7 @@ returns-4 c =
     let c5 = c .before .before .before .before .before in
     let c7 = c5 .before .before in
     let c12 = c7 .before .before .before .before .before in
-    let ws = c12 .args .table .now in
-    aliased-bound limits (omega arith) ws (c12 .pre .0) (c12 .args .path .now) (c .before .before .find-spot .result) (c .before .before .find-spot .ensures) (c12 .args .target .now) (c5 .aim2 .given .0 .0 .0)
+    aliased-bound limits (omega arith) (c12 .args .table .now) (c12 .pre .0) (c12 .args .path .now) (c .before .before .find-spot .result) (c .before .before .find-spot .ensures) (c12 .args .target .now) (c5 .aim2 .given .0 .0 .0)
     (sym (ap handleSaid (c5 .aim2 .given .1)) ∙ c7 .look-up .ensures) _ (c .enum-told .given .1)
 
 returns-5 : tie.Need-returns-5
@@ -114,8 +107,7 @@ returns-5 c =
     let c14 = c11 .before .before .before in
     let c16 = c14 .before .before in
     let c21 = c16 .before .before .before .before .before in
-    let ws = c21 .args .table .now in
-    aliased limits (omega arith) ws (c21 .pre .0) (c21 .args .path .now) (c11 .find-spot .result) (c11 .find-spot .ensures) (c21 .args .target .now) (c14 .aim2 .given .0 .0 .0)
+    aliased limits (omega arith) (c21 .args .table .now) (c21 .pre .0) (c21 .args .path .now) (c11 .find-spot .result) (c11 .find-spot .ensures) (c21 .args .target .now) (c14 .aim2 .given .0 .0 .0)
     (sym (ap handleSaid (c14 .aim2 .given .1)) ∙ c16 .look-up .ensures) (omega arith) (c9 .found2 .given .0 .0) (c9 .found2 .given .0 .1 .0) (c9 .found2 .given .1) (c6 .if1 .left) _ (c .before .before .bind .ensures)
 
 pub add-alias-spec : {M : Type 1} → statement M

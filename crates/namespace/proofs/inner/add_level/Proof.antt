@@ -12,28 +12,23 @@ use Rattle.namespace.proofs.inner.add_level.Tie as tie
 
 returns : tie.Need-returns
 returns c =
-    let ws = c .before .before .before .args .table .now in
-    added-root limits (omega arith) ws (c .before .before .before .pre .0) (c .before .before .before .args .path .now) (c .before .before .before .args .typ) (c .if1 .taken)
+    added-root limits (omega arith) (c .before .before .before .args .table .now) (c .before .before .before .pre .0) (c .before .before .before .args .path .now) (c .before .before .before .args .typ) (c .if1 .taken)
 
 slice-reshare-prefix-seek : tie.Need-slice-reshare-prefix-seek
 slice-reshare-prefix-seek c =
-    let ws = c .before .before .before .args .table .now in
-    omega (arith, long limits (omega arith) ws (c .before .before .before .pre .0))
+    omega (arith, long limits (omega arith) (c .before .before .before .args .table .now) (c .before .before .before .pre .0))
 
 slice-aggregate-seek : tie.Need-slice-aggregate-seek
 slice-aggregate-seek c =
-    let ws = c .before .before .before .before .args .table .now in
-    sym (length-ls limits (omega arith) ws (c .before .before .before .before .pre .0))
+    sym (length-ls limits (omega arith) (c .before .before .before .before .args .table .now) (c .before .before .before .before .pre .0))
 
 seek-requires : tie.Need-seek-requires
 seek-requires c κs =
-    let ws = c .before .before .before .before .args .table .now in
-    omega (arith, length-ls limits (omega arith) ws (c .before .before .before .before .pre .0))
+    omega (arith, length-ls limits (omega arith) (c .before .before .before .before .args .table .now) (c .before .before .before .before .pre .0))
 
 slice-read-if2 : tie.Need-slice-read-if2
 slice-read-if2 c =
-    let ws = c .before .before .before .before .before .before .before .before .before .args .table .now in
-    omega (arith, long limits (omega arith) ws (c .before .before .before .before .before .before .before .before .before .pre .0))
+    omega (arith, long limits (omega arith) (c .before .before .before .before .before .before .before .before .before .args .table .now) (c .before .before .before .before .before .before .before .before .before .pre .0))
 
 add-w-2 : tie.Need-add-w-2
 add-w-2 c =
@@ -42,34 +37,29 @@ add-w-2 c =
 
 slice-relend-prefix-make-room : tie.Need-slice-relend-prefix-make-room
 slice-relend-prefix-make-room c =
-    let ws = c .before .before .before .before .before .before .before .before .before .before .before .args .table .now in
-    omega (arith, long limits (omega arith) ws (c .before .before .before .before .before .before .before .before .before .before .before .pre .0))
+    omega (arith, long limits (omega arith) (c .before .before .before .before .before .before .before .before .before .before .before .args .table .now) (c .before .before .before .before .before .before .before .before .before .before .before .pre .0))
 
 slice-aggregate-make-room : tie.Need-slice-aggregate-make-room
 slice-aggregate-make-room c =
-    let ws = c .before .before .before .before .before .before .before .before .before .before .before .before .args .table .now in
-    sym (length-ls limits (omega arith) ws (c .before .before .before .before .before .before .before .before .before .before .before .before .pre .0))
+    sym (length-ls limits (omega arith) (c .before .before .before .before .before .before .before .before .before .before .before .before .args .table .now) (c .before .before .before .before .before .before .before .before .before .before .before .before .pre .0))
 
 make-room-requires : tie.Need-make-room-requires
 make-room-requires c κs =
     let c5 = c .before .before .before .before .before in
     let c7 = c5 .before .before in
     let c12 = c7 .before .before .before .before .before in
-    let ws = c12 .args .table .now in
-    added-place limits (omega arith) ws (c12 .pre .0) (c12 .args .path .now) (c12 .args .typ) (omega arith) (c7 .seek .result) (c7 .seek .ensures) (omega arith) (c5 .found2 .given .0 .0) (c5 .found2 .given .1)
+    added-place limits (omega arith) (c12 .args .table .now) (c12 .pre .0) (c12 .args .path .now) (c12 .args .typ) (omega arith) (c7 .seek .result) (c7 .seek .ensures) (omega arith) (c5 .found2 .given .0 .0) (c5 .found2 .given .1)
 
 returns-2 : tie.Need-returns-2
 returns-2 c =
     let c7 = c .before .before .before .before .before .before .before in
-    let ws = c7 .args .table .now in
-    added-here limits (omega arith) ws (c7 .pre .0) (c7 .args .path .now) (c7 .args .typ) (omega arith) (c .before .before .seek .result) (c .before .before .seek .ensures) _ _ (c .enum-told .given .1)
+    added-here limits (omega arith) (c7 .args .table .now) (c7 .pre .0) (c7 .args .path .now) (c7 .args .typ) (omega arith) (c .before .before .seek .result) (c .before .before .seek .ensures) _ _ (c .enum-told .given .1)
 
 returns-3 : tie.Need-returns-3
 returns-3 c =
     let c3 = c .before .before .before in
     let c8 = c3 .before .before .before .before .before in
-    let ws = c8 .args .table .now in
-    added-missing limits (omega arith) ws (c8 .pre .0) (c8 .args .path .now) (c8 .args .typ) (omega arith) (c3 .seek .result) (c3 .seek .ensures) (c .before .found .given .0 .0) (c .before .found .given .1)
+    added-missing limits (omega arith) (c8 .args .table .now) (c8 .pre .0) (c8 .args .path .now) (c8 .args .typ) (omega arith) (c3 .seek .result) (c3 .seek .ensures) (c .before .found .given .0 .0) (c .before .found .given .1)
 
 returns-4 : tie.Need-returns-4
 returns-4 c =
@@ -77,8 +67,7 @@ returns-4 c =
     let c8 = c5 .before .before .before in
     let c10 = c8 .before .before in
     let c15 = c10 .before .before .before .before .before in
-    let ws = c15 .args .table .now in
-    added-new limits (omega arith) ws (c15 .pre .0) (c15 .args .path .now) (c15 .args .typ) (omega arith) (c10 .seek .result) (c10 .seek .ensures) (omega arith) (c8 .found2 .given .0 .0) (c8 .found2 .given .1) (c5 .if2 .taken) _
+    added-new limits (omega arith) (c15 .args .table .now) (c15 .pre .0) (c15 .args .path .now) (c15 .args .typ) (omega arith) (c10 .seek .result) (c10 .seek .ensures) (omega arith) (c8 .found2 .given .0 .0) (c8 .found2 .given .1) (c5 .if2 .taken) _
     (c .before .before .make-room .ensures)
 
 returns-5 : tie.Need-returns-5
@@ -86,8 +75,7 @@ returns-5 c =
     let c3 = c .before .before .before in
     let c5 = c3 .before .before in
     let c10 = c5 .before .before .before .before .before in
-    let ws = c10 .args .table .now in
-    added-full limits (omega arith) ws (c10 .pre .0) (c10 .args .path .now) (c10 .args .typ) (omega arith) (c5 .seek .result) (c5 .seek .ensures) (omega arith) (c3 .found2 .given .0 .0) (c3 .found2 .given .1) (c .if2 .left)
+    added-full limits (omega arith) (c10 .args .table .now) (c10 .pre .0) (c10 .args .path .now) (c10 .args .typ) (omega arith) (c5 .seek .result) (c5 .seek .ensures) (omega arith) (c3 .found2 .given .0 .0) (c3 .found2 .given .1) (c .if2 .left)
 
 pub add-level-spec : {M : Type 1} → statement M
 add-level-spec =

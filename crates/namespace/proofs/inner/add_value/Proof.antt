@@ -1,6 +1,6 @@
 -- One law for each answer, by where the last segment is.
 use mathlib.Core.Path.{ap, _∙_}
-use Prim.Native.Nat.{_+_, _*_, _-_}
+use Prim.Native.Nat.{_+_, _*_, _-_, _^_}
 use lib.ListN.{length, getD, length-set}
 use Rattle.table.specs.Limits.{limits}
 use Rattle.table.proofs.Objects.{long}
@@ -14,29 +14,25 @@ use Rattle.namespace.proofs.inner.add_value.Tie as tie
 
 slice-read-if1 : tie.Need-slice-read-if1
 slice-read-if1 c =
-    let ws = c .before .before .before .before .before .before .before .before .args .table .now in
-    omega (arith, long limits (omega arith) ws (c .before .before .before .before .before .before .before .before .pre .0))
+    omega (arith, long limits (omega arith) (c .before .before .before .before .before .before .before .before .args .table .now) (c .before .before .before .before .before .before .before .before .pre .0))
 
 returns : tie.Need-returns
 returns c =
     let c3 = c .before .before .before in
     let c5 = c3 .before .before in
     let c9 = c5 .before .before .before .before in
-    let ws = c9 .args .table .now in
-    valued-full limits (omega arith) ws (c9 .pre .0) (c9 .args .path .now) (c5 .find-spot .result) (c5 .find-spot .ensures) (c9 .args .value) (omega arith) (c3 .found2 .given .0 .0) (c3 .found2 .given .0 .1 .0) (c3 .found2 .given .1) (c .if1 .taken)
+    valued-full limits (omega arith) (c9 .args .table .now) (c9 .pre .0) (c9 .args .path .now) (c5 .find-spot .result) (c5 .find-spot .ensures) (c9 .args .value) (omega arith) (c3 .found2 .given .0 .0) (c3 .found2 .given .0 .1 .0) (c3 .found2 .given .1) (c .if1 .taken)
 
 slice-read-made : tie.Need-slice-read-made
 slice-read-made c =
-    let ws = c .before .before .before .before .before .before .before .before .before .before .args .table .now in
-    omega (arith, long limits (omega arith) ws (c .before .before .before .before .before .before .before .before .before .before .pre .0))
+    omega (arith, long limits (omega arith) (c .before .before .before .before .before .before .before .before .before .before .args .table .now) (c .before .before .before .before .before .before .before .before .before .before .pre .0))
 
 returns-2 : tie.Need-returns-2
 returns-2 c =
     let c5 = c .before .before .before .before .before in
     let c7 = c5 .before .before in
     let c11 = c7 .before .before .before .before in
-    let ws = c11 .args .table .now in
-    valued-none limits (omega arith) ws (c11 .pre .0) (c11 .args .path .now) (c7 .find-spot .result) (c7 .find-spot .ensures) (c11 .args .value) (omega arith) (c5 .found2 .given .0 .0) (c5 .found2 .given .0 .1 .0) (c5 .found2 .given .1)
+    valued-none limits (omega arith) (c11 .args .table .now) (c11 .pre .0) (c11 .args .path .now) (c7 .find-spot .result) (c7 .find-spot .ensures) (c11 .args .value) (omega arith) (c5 .found2 .given .0 .0) (c5 .found2 .given .0 .1 .0) (c5 .found2 .given .1)
     (c .before .before .if1 .left) (c .if2 .taken)
 
 sub-bind : tie.Need-sub-bind
@@ -44,24 +40,21 @@ sub-bind c =
     let c6 = c .before .before .before .before .before .before in
     let c8 = c6 .before .before in
     let c12 = c8 .before .before .before .before in
-    let ws = c12 .args .table .now in
-    omega (arith, (spot-open limits (omega arith) ws (c12 .pre .0) (c12 .args .path .now) (c8 .find-spot .result) (c8 .find-spot .ensures) (c6 .found2 .given .0 .0) (c6 .found2 .given .0 .1 .0) (c6 .found2 .given .1)) .more, c12 .pre .1 .short)
+    omega (arith, (spot-open limits (omega arith) (c12 .args .table .now) (c12 .pre .0) (c12 .args .path .now) (c8 .find-spot .result) (c8 .find-spot .ensures) (c6 .found2 .given .0 .0) (c6 .found2 .given .0 .1 .0) (c6 .found2 .given .1)) .more, c12 .pre .1 .short)
 
 mul-bind : tie.Need-mul-bind
 mul-bind c =
     let c6 = c .before .before .before .before .before .before in
     let c8 = c6 .before .before in
     let c12 = c8 .before .before .before .before in
-    let ws = c12 .args .table .now in
-    omega (arith, (spot-open limits (omega arith) ws (c12 .pre .0) (c12 .args .path .now) (c8 .find-spot .result) (c8 .find-spot .ensures) (c6 .found2 .given .0 .0) (c6 .found2 .given .0 .1 .0) (c6 .found2 .given .1)) .more, c12 .pre .1 .short)
+    omega (arith, (spot-open limits (omega arith) (c12 .args .table .now) (c12 .pre .0) (c12 .args .path .now) (c8 .find-spot .result) (c8 .find-spot .ensures) (c6 .found2 .given .0 .0) (c6 .found2 .given .0 .1 .0) (c6 .found2 .given .1)) .more, c12 .pre .1 .short)
 
 shared-slice-read-bind : tie.Need-shared-slice-read-bind
 shared-slice-read-bind c =
     let c7 = c .before .before .before .before .before .before .before in
     let c9 = c7 .before .before in
     let c13 = c9 .before .before .before .before in
-    let ws = c13 .args .table .now in
-    omega (arith, (spot-open limits (omega arith) ws (c13 .pre .0) (c13 .args .path .now) (c9 .find-spot .result) (c9 .find-spot .ensures) (c7 .found2 .given .0 .0) (c7 .found2 .given .0 .1 .0) (c7 .found2 .given .1)) .more, c13 .pre .1 .short)
+    omega (arith, (spot-open limits (omega arith) (c13 .args .table .now) (c13 .pre .0) (c13 .args .path .now) (c9 .find-spot .result) (c9 .find-spot .ensures) (c7 .found2 .given .0 .0) (c7 .found2 .given .0 .1 .0) (c7 .found2 .given .1)) .more, c13 .pre .1 .short)
 
 mul-bind-2 : tie.Need-mul-bind-2
 mul-bind-2 c =
@@ -103,7 +96,7 @@ slice-write-table c =
       arith,
       c5 .if2 .left,
       ap length (c .before .before .bind .ensures)
-          ∙ bind-length limits ws (c10 .found2 .given .0 .0) (c10 .found2 .given .0 .1 .0) (getD (c16 .args .path .now) (length (c16 .args .path .now) - 1) 0 * 4294967296 + getD ws 640 0),
+          ∙ bind-length limits ws (c10 .found2 .given .0 .0) (c10 .found2 .given .0 .1 .0) (getD (c16 .args .path .now) (length (c16 .args .path .now) - 1) 0 * 2 ^ 32 + getD ws 640 0),
       long limits (omega arith) ws (c16 .pre .0),
     )
 
@@ -115,7 +108,7 @@ slice-write-table-2 c =
     let c10 = c .before .before .before .before .before .before .before .before .before .before in
     let c16 = c10 .before .before .before .before .before .before in
     let ws = c16 .args .table .now in
-    let n = ap length (c .before .before .bind .ensures) ∙ bind-length limits ws (c10 .found2 .given .0 .0) (c10 .found2 .given .0 .1 .0) (getD (c16 .args .path .now) (length (c16 .args .path .now) - 1) 0 * 4294967296 + getD ws 640 0)
+    let n = ap length (c .before .before .bind .ensures) ∙ bind-length limits ws (c10 .found2 .given .0 .0) (c10 .found2 .given .0 .1 .0) (getD (c16 .args .path .now) (length (c16 .args .path .now) - 1) 0 * 2 ^ 32 + getD ws 640 0)
     ∙ long limits (omega arith) ws (c16 .pre .0) in simp length-set (omega arith)
 
 cast-t30 : tie.Need-cast-t30
@@ -125,14 +118,12 @@ returns-3 : tie.Need-returns-3
 returns-3 c =
     let c3 = c .before .before .before in
     let c7 = c3 .before .before .before .before in
-    let ws = c7 .args .table .now in
-    valued-refused limits (omega arith) ws (c7 .pre .0) (c7 .args .path .now) (c3 .find-spot .result) (c3 .find-spot .ensures) (c7 .args .value) (c .before .found .given .0 .0) (c .before .found .given .1)
+    valued-refused limits (omega arith) (c7 .args .table .now) (c7 .pre .0) (c7 .args .path .now) (c3 .find-spot .result) (c3 .find-spot .ensures) (c7 .args .value) (c .before .found .given .0 .0) (c .before .found .given .1)
 
 returns-4 : tie.Need-returns-4
 returns-4 c =
     let c6 = c .before .before .before .before .before .before in
-    let ws = c6 .args .table .now in
-    valued-bound limits (omega arith) ws (c6 .pre .0) (c6 .args .path .now) (c .before .before .find-spot .result) (c .before .before .find-spot .ensures) (c6 .args .value) _ (c .enum-told .given .1)
+    valued-bound limits (omega arith) (c6 .args .table .now) (c6 .pre .0) (c6 .args .path .now) (c .before .before .find-spot .result) (c .before .before .find-spot .ensures) (c6 .args .value) _ (c .enum-told .given .1)
 
 returns-5 : tie.Need-returns-5
 returns-5 c =
@@ -141,8 +132,7 @@ returns-5 c =
     let c10 = c7 .before .before .before in
     let c12 = c10 .before .before in
     let c16 = c12 .before .before .before .before in
-    let ws = c16 .args .table .now in
-    valued limits (omega arith) ws (c16 .pre .0) (c16 .args .path .now) (c12 .find-spot .result) (c12 .find-spot .ensures) (c16 .args .value) (omega arith) (c10 .found2 .given .0 .0) (c10 .found2 .given .0 .1 .0) (c10 .found2 .given .1)
+    valued limits (omega arith) (c16 .args .table .now) (c16 .pre .0) (c16 .args .path .now) (c12 .find-spot .result) (c12 .find-spot .ensures) (c16 .args .value) (omega arith) (c10 .found2 .given .0 .0) (c10 .found2 .given .0 .1 .0) (c10 .found2 .given .1)
     (c7 .if1 .left) (c5 .if2 .left) _ (c .before .before .bind .ensures)
 
 pub add-value-spec : {M : Type 1} → statement M

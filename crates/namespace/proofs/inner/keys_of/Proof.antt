@@ -1,9 +1,11 @@
--- The keys so far are the path's.
-use mathlib.Core.Path.{_≡_, refl, ap, sym, _∙_}
-use Prim.Native.Nat.{ℕ, _-_, _≤_, _<_}
+-- The keys so far are the path's, where it is settled.
+use mathlib.Core.Path.{_≡_, refl}
+use Prim.Native.Nat.{_-_, _≤_, _<_}
 use lib.ListN.{length, take, length-set}
+use Rattle.name_object.specs.Component.{componentLimit}
 use Rattle.name_object.specs.Memory.{pathOf}
-use Rattle.table.specs.Tree.{number, keys as keysOf}
+use Rattle.table.specs.Tree.{keys as keysOf}
+use Rattle.namespace.specs.Inside.{Settled}
 use Rattle.namespace.proofs.Keys.{settled-count, keys-first, keys-turn, keys-whole}
 use borrow.Author.Needs.{needs}
 use native.Mathlib.Omega.{arith}
@@ -12,43 +14,48 @@ use Rattle.namespace.proofs.inner.keys_of.Tie as tie
 
 abbrev Inv-loop : tie.InvT-loop
 Inv-loop path n keys₀ i₀ keys i =
-    (i ≤ n) × (n ≡ path .count) × (0 < i) × (n ≤ 32) × (length keys ≡ 32) × (take i keys ≡ take i (keysOf (pathOf path)))
+    (i ≤ 32) × (0 < i) × (n ≡ path .count) × (length keys ≡ 32) × (Settled componentLimit path → (i ≤ path .count) × (take i keys ≡ take i (keysOf (pathOf path))))
 
 abbrev μ-loop : tie.MeasureT-loop
-μ-loop path n keys₀ i₀ keys i = n - i
+μ-loop path n keys₀ i₀ keys i = 32 - i
 
 loop-holds : tie.Need-loop-holds Inv-loop μ-loop
 loop-holds c =
     let a = c .args in
-    let s = settled-count (a .t1) (c .pre) in
     let len : length (a .t1 .bytes) ≡ 128 = search needs in
-    (omega arith, refl, omega arith, omega arith, refl, sym (keys-first (a .t1) len (c .pre)))
+    (omega arith, omega arith, refl, refl, λ s. (omega (arith, settled-count (a .t1) s), keys-first (a .t1) len s))
+
+returns : tie.Need-returns Inv-loop μ-loop
+returns c = λ s.
+    let l = c .before .before .loop in
+    let a = c .before .before .before .args in
+    let len : length (a .t1 .bytes) ≡ 128 = search needs in
+    keys-whole (a .t1) len s (l .keys) (l .i) (omega (arith, l .inv .4 s .0, c .if1 .taken)) (l .inv .4 s .1)
 
 loop-again : tie.Need-loop-again Inv-loop μ-loop
 loop-again c =
-    let l = c .before .before .before .before .before .before .before .before .before .loop in
-    let a = c .before .before .before .before .before .before .before .before .before .before .args in
+    let l = c .before .before .before .before .before .before .before .loop in
+    let a = c .before .before .before .before .before .before .before .before .args in
     let len : length (a .t1 .bytes) ≡ 128 = search needs in (
       omega arith,
+      omega arith,
       refl,
-      omega arith,
-      omega arith,
-      simp length-set (l .inv .4),
-      keys-turn (a .t1) len (c .before .before .before .before .before .before .before .before .before .before .pre) (l .keys) (l .i) _ (omega arith) (omega arith) (omega arith) (l .inv .5)
-          (λ k. number (c .before .before .before .before .before .before .wide .ensures .0 k) (c .before .before .before .before .wide2 .ensures .0 k) (c .before .before .wide3 .ensures .0 k) (c .wide4 .ensures .0 k)),
+      simp length-set (l .inv .3),
+      λ s. (
+        omega arith,
+        keys-turn (a .t1) len s (l .keys) (l .i) _ (omega arith) (omega arith) (omega arith) (l .inv .4 s .1) (c .number .ensures),
+      ),
     )
 
-returns : tie.Need-returns Inv-loop μ-loop
-returns c =
+returns-2 : tie.Need-returns-2 Inv-loop μ-loop
+returns-2 c = λ s.
     let l = c .before .loop in
     let a = c .before .before .args in
     let len : length (a .t1 .bytes) ≡ 128 = search needs in
-    let i : l .i ≡ a .t1 .count = omega arith in
-    ap (λ (n : ℕ). take n (l .keys)) (sym i) ∙ l .inv .5 ∙ ap (λ (n : ℕ). take n (keysOf (pathOf (a .t1)))) i ∙ keys-whole (a .t1) len (c .before .before .pre)
+    keys-whole (a .t1) len s (l .keys) (l .i) (omega (arith, l .inv .4 s .0, settled-count (a .t1) s)) (l .inv .4 s .1)
 
 pub keys-of-spec : {M : Type 1} → statement M
 keys-of-spec =
-    tie.close (tie.spec Inv-loop μ-loop loop-holds (λ c. search needs) (λ c. search needs) (λ c κs. search needs) (λ c. search needs) (λ c. search needs)
-    (λ c. search needs) (λ c κs. search needs) (λ c. search needs) (λ c. search needs) (λ c. search needs) (λ c. search needs) (λ c κs. search needs)
-    (λ c. search needs) (λ c. search needs) (λ c. search needs) (λ c. search needs) (λ c κs. search needs) (λ c. search needs) (λ c. search needs)
-    (λ c. search needs) (λ c. search needs) (λ c. search needs) loop-again returns)
+    tie.close (tie.spec Inv-loop μ-loop loop-holds returns (λ c. search needs) (λ c. search needs) (λ c. search needs) (λ c. search needs) (λ c. search needs)
+    (λ c. search needs) (λ c. search needs) (λ c. search needs) (λ c κs. search needs) (λ c. search needs) (λ c. search needs) (λ c. search needs)
+    (λ c. search needs) loop-again returns-2)

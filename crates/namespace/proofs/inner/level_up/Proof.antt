@@ -17,16 +17,12 @@ use native.Mathlib.Omega.{arith}
 use Rattle.namespace.proofs.inner.level_up.Statement.{statement}
 use Rattle.namespace.proofs.inner.level_up.Tie as tie
 
-keys-of-requires : tie.Need-keys-of-requires
-keys-of-requires c κs = c .before .pre .2
-
 bare-key-requires : tie.Need-bare-key-requires
 bare-key-requires c κs = c .before .before .pre .1
 
 slice-aggregate-nearest-level : tie.Need-slice-aggregate-nearest-level
 slice-aggregate-nearest-level c =
-    let ws = c .before .before .before .before .args .table .now in
-    sym (length-ls limits (omega arith) ws (c .before .before .before .before .pre .0))
+    sym (length-ls limits (omega arith) (c .before .before .before .before .args .table .now) (c .before .before .before .before .pre .0))
 
 array-share-prefix-keys : tie.Need-array-share-prefix-keys
 array-share-prefix-keys c =
@@ -47,7 +43,7 @@ returns c =
     let c8 = c6 .before .before in
     let ws = c8 .args .table .now in
     c .no-level .ensures ∙ ap (told componentLimit) (sym (level-none ws (c8 .pre .0) (c8 .args .scope) (c8 .pre .2) (firstOf (pathOf (c8 .args .path))) (c .before .before .nearest-level .result)
-    (c .before .before .nearest-level .ensures ∙ ap₂ (λ (k : ℕ) (p : List ℕ). nearLevelIn k p (take 128 ws) 0 0) (c5 .bare-key .ensures) (c6 .keys-of .ensures)) (c .before .if1 .taken)))
+    (c .before .before .nearest-level .ensures ∙ ap₂ (λ (k : ℕ) (p : List ℕ). nearLevelIn k p (take 128 ws) 0 0) (c5 .bare-key .ensures) (c6 .keys-of .ensures (c8 .pre .2))) (c .before .if1 .taken)))
 
 full-name-requires : tie.Need-full-name-requires
 full-name-requires c κs =
@@ -55,7 +51,7 @@ full-name-requires c κs =
     let c5 = c4 .before in
     let c7 = c5 .before .before in
     let ws = c7 .args .table .now in
-    let h1 = c .before .nearest-level .ensures ∙ ap₂ (λ (k : ℕ) (p : List ℕ). nearLevelIn k p (take 128 ws) 0 0) (c4 .bare-key .ensures) (c5 .keys-of .ensures) in (
+    let h1 = c .before .nearest-level .ensures ∙ ap₂ (λ (k : ℕ) (p : List ℕ). nearLevelIn k p (take 128 ws) 0 0) (c4 .bare-key .ensures) (c5 .keys-of .ensures (c7 .pre .2)) in (
       c7 .pre .2,
       c7 .pre .1,
       level-range ws (c7 .pre .0) (c7 .args .scope) (c7 .pre .2) (firstOf (pathOf (c7 .args .path))) (c .before .nearest-level .result) h1 (c .if1 .left) .0,
@@ -70,11 +66,10 @@ sub-t16 c =
     let c8 = c6 .before .before in
     let ws = c8 .args .table .now in
     level-range ws (c8 .pre .0) (c8 .args .scope) (c8 .pre .2) (firstOf (pathOf (c8 .args .path))) (c .before .before .nearest-level .result)
-    (c .before .before .nearest-level .ensures ∙ ap₂ (λ (k : ℕ) (p : List ℕ). nearLevelIn k p (take 128 ws) 0 0) (c5 .bare-key .ensures) (c6 .keys-of .ensures)) (c .before .if1 .left) .0
+    (c .before .before .nearest-level .ensures ∙ ap₂ (λ (k : ℕ) (p : List ℕ). nearLevelIn k p (take 128 ws) 0 0) (c5 .bare-key .ensures) (c6 .keys-of .ensures (c8 .pre .2))) (c .before .if1 .left) .0
 
 add-t17 : tie.Need-add-t17
 add-t17 c =
-    let ws = c .before .before .before .before .before .before .before .before .args .table .now in
     let n = settled-count (c .before .before .before .before .before .before .before .before .args .scope) (c .before .before .before .before .before .before .before .before .pre .2) in omega arith
 
 returns-2 : tie.Need-returns-2
@@ -84,9 +79,9 @@ returns-2 c =
     let c8 = c6 .before .before in
     let ws = c8 .args .table .now in
     level-found ws (c8 .pre .0) (c8 .args .scope) (c8 .pre .2) (firstOf (pathOf (c8 .args .path))) (c .before .before .nearest-level .result)
-    (c .before .before .nearest-level .ensures ∙ ap₂ (λ (k : ℕ) (p : List ℕ). nearLevelIn k p (take 128 ws) 0 0) (c5 .bare-key .ensures) (c6 .keys-of .ensures)) (c .before .if1 .left) (c .full-name .result) (c .full-name .ensures)
+    (c .before .before .nearest-level .ensures ∙ ap₂ (λ (k : ℕ) (p : List ℕ). nearLevelIn k p (take 128 ws) 0 0) (c5 .bare-key .ensures) (c6 .keys-of .ensures (c8 .pre .2))) (c .before .if1 .left) (c .full-name .result) (c .full-name .ensures)
 
 pub level-up-spec : {M : Type 1} → statement M
 level-up-spec =
-    tie.close (tie.spec keys-of-requires bare-key-requires slice-aggregate-nearest-level array-share-prefix-keys slice-aggregate-nearest-level-2
+    tie.close (tie.spec (λ c κs. search needs) bare-key-requires slice-aggregate-nearest-level array-share-prefix-keys slice-aggregate-nearest-level-2
     (λ c κs. search needs) (λ c κs. search needs) returns full-name-requires sub-t16 add-t17 returns-2)

@@ -10,27 +10,23 @@ cast-t7 : tie.Need-cast-t7
 cast-t7 c =
     let c3 = c .before .before .before in
     let c6 = c3 .before .before .before in
-    let ws = c6 .args .table .now in
-    omega (arith, looked-bound limits (omega arith) ws (c6 .pre .0) (c6 .args .path .now) (c3 .find-spot .result) (c3 .find-spot .ensures) (c .before .found .given .0 .0) (c .before .found .given .1) .1)
+    omega (arith, looked-bound limits (omega arith) (c6 .args .table .now) (c6 .pre .0) (c6 .args .path .now) (c3 .find-spot .result) (c3 .find-spot .ensures) (c .before .found .given .0 .0) (c .before .found .given .1) .1)
 
 returns : tie.Need-returns
 returns c =
     let c3 = c .before .before .before in
     let c6 = c3 .before .before .before in
-    let ws = c6 .args .table .now in
-    looked-bound limits (omega arith) ws (c6 .pre .0) (c6 .args .path .now) (c3 .find-spot .result) (c3 .find-spot .ensures) (c .before .found .given .0 .0) (c .before .found .given .1) .0
+    looked-bound limits (omega arith) (c6 .args .table .now) (c6 .pre .0) (c6 .args .path .now) (c3 .find-spot .result) (c3 .find-spot .ensures) (c .before .found .given .0 .0) (c .before .found .given .1) .0
 
 returns-2 : tie.Need-returns-2
 returns-2 c =
-    let ws = c .before .before .before .before .before .args .table .now in
-    looked-free limits (omega arith) ws (c .before .before .before .before .before .pre .0) (c .before .before .before .before .before .args .path .now) (c .before .before .find-spot .result) (c .before .before .find-spot .ensures) _ _ (c .enum-told .given .1)
+    looked-free limits (omega arith) (c .before .before .before .before .before .args .table .now) (c .before .before .before .before .before .pre .0) (c .before .before .before .before .before .args .path .now) (c .before .before .find-spot .result) (c .before .before .find-spot .ensures) _ _ (c .enum-told .given .1)
 
 returns-3 : tie.Need-returns-3
 returns-3 c =
     let c3 = c .before .before .before in
     let c6 = c3 .before .before .before in
-    let ws = c6 .args .table .now in
-    looked-refused limits (omega arith) ws (c6 .pre .0) (c6 .args .path .now) (c3 .find-spot .result) (c3 .find-spot .ensures) (c .before .found2 .given .0 .0) (c .before .found2 .given .1)
+    looked-refused limits (omega arith) (c6 .args .table .now) (c6 .pre .0) (c6 .args .path .now) (c3 .find-spot .result) (c3 .find-spot .ensures) (c .before .found2 .given .0 .0) (c .before .found2 .given .1)
 
 pub look-up-spec : {M : Type 1} → statement M
 look-up-spec =

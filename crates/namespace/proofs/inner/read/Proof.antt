@@ -8,8 +8,7 @@ use Rattle.namespace.proofs.inner.read.Tie as tie
 
 shared-slice-read-made : tie.Need-shared-slice-read-made
 shared-slice-read-made c =
-    let ws = c .before .before .args .table .now in
-    omega (arith, long limits (omega arith) ws (c .before .before .pre))
+    omega (arith, long limits (omega arith) (c .before .before .args .table .now) (c .before .before .pre))
 
 shared-slice-read-t12 : tie.Need-shared-slice-read-t12
 shared-slice-read-t12 c =
@@ -18,13 +17,11 @@ shared-slice-read-t12 c =
 
 returns : tie.Need-returns
 returns c =
-    let ws = c .before .before .before .before .args .table .now in
-    get-found limits (omega arith) ws (c .before .before .before .before .pre) (c .before .before .before .before .args .handle .0) (c .before .if1 .taken)
+    get-found limits (omega arith) (c .before .before .before .before .args .table .now) (c .before .before .before .before .pre) (c .before .before .before .before .args .handle .0) (c .before .if1 .taken)
 
 returns-2 : tie.Need-returns-2
 returns-2 c =
-    let ws = c .before .before .before .args .table .now in
-    get-none limits (omega arith) ws (c .before .before .before .pre) (c .before .before .before .args .handle .0) (c .if1 .left)
+    get-none limits (omega arith) (c .before .before .before .args .table .now) (c .before .before .before .pre) (c .before .before .before .args .handle .0) (c .if1 .left)
 
 pub read-spec : {M : Type 1} → statement M
 read-spec =

@@ -10,33 +10,27 @@ use Rattle.namespace.proofs.inner.remove_level.Tie as tie
 
 returns : tie.Need-returns
 returns c =
-    let ws = c .before .before .before .args .table .now in
-    removed-root limits (omega arith) ws (c .before .before .before .pre .0) (c .before .before .before .args .path .now) (c .if1 .taken)
+    removed-root limits (omega arith) (c .before .before .before .args .table .now) (c .before .before .before .pre .0) (c .before .before .before .args .path .now) (c .if1 .taken)
 
 slice-reshare-prefix-seek : tie.Need-slice-reshare-prefix-seek
 slice-reshare-prefix-seek c =
-    let ws = c .before .before .before .args .table .now in
-    omega (arith, long limits (omega arith) ws (c .before .before .before .pre .0))
+    omega (arith, long limits (omega arith) (c .before .before .before .args .table .now) (c .before .before .before .pre .0))
 
 slice-aggregate-seek : tie.Need-slice-aggregate-seek
 slice-aggregate-seek c =
-    let ws = c .before .before .before .before .args .table .now in
-    sym (length-ls limits (omega arith) ws (c .before .before .before .before .pre .0))
+    sym (length-ls limits (omega arith) (c .before .before .before .before .args .table .now) (c .before .before .before .before .pre .0))
 
 seek-requires : tie.Need-seek-requires
 seek-requires c κs =
-    let ws = c .before .before .before .before .args .table .now in
-    omega (arith, length-ls limits (omega arith) ws (c .before .before .before .before .pre .0))
+    omega (arith, length-ls limits (omega arith) (c .before .before .before .before .args .table .now) (c .before .before .before .before .pre .0))
 
 slice-reshare-prefix-subtree : tie.Need-slice-reshare-prefix-subtree
 slice-reshare-prefix-subtree c =
-    let ws = c .before .before .before .before .before .before .before .before .args .table .now in
-    omega (arith, long limits (omega arith) ws (c .before .before .before .before .before .before .before .before .pre .0))
+    omega (arith, long limits (omega arith) (c .before .before .before .before .before .before .before .before .args .table .now) (c .before .before .before .before .before .before .before .before .pre .0))
 
 slice-aggregate-subtree : tie.Need-slice-aggregate-subtree
 slice-aggregate-subtree c =
-    let ws = c .before .before .before .before .before .before .before .before .before .args .table .now in
-    sym (length-ls limits (omega arith) ws (c .before .before .before .before .before .before .before .before .before .pre .0))
+    sym (length-ls limits (omega arith) (c .before .before .before .before .before .before .before .before .before .args .table .now) (c .before .before .before .before .before .before .before .before .before .pre .0))
 
 subtree-requires : tie.Need-subtree-requires
 subtree-requires c κs =
@@ -52,21 +46,18 @@ subtree-requires c κs =
 
 slice-relend-prefix-close-gap : tie.Need-slice-relend-prefix-close-gap
 slice-relend-prefix-close-gap c =
-    let ws = c .before .before .before .before .before .before .before .before .before .before .args .table .now in
-    omega (arith, long limits (omega arith) ws (c .before .before .before .before .before .before .before .before .before .before .pre .0))
+    omega (arith, long limits (omega arith) (c .before .before .before .before .before .before .before .before .before .before .args .table .now) (c .before .before .before .before .before .before .before .before .before .before .pre .0))
 
 slice-aggregate-close-gap : tie.Need-slice-aggregate-close-gap
 slice-aggregate-close-gap c =
-    let ws = c .before .before .before .before .before .before .before .before .before .before .before .args .table .now in
-    sym (length-ls limits (omega arith) ws (c .before .before .before .before .before .before .before .before .before .before .before .pre .0))
+    sym (length-ls limits (omega arith) (c .before .before .before .before .before .before .before .before .before .before .before .args .table .now) (c .before .before .before .before .before .before .before .before .before .before .before .pre .0))
 
 close-gap-requires : tie.Need-close-gap-requires
 close-gap-requires c κs =
     let c4 = c .before .before .before .before in
     let c6 = c4 .before .before in
     let c11 = c6 .before .before .before .before .before in
-    let ws = c11 .args .table .now in
-    run-fits limits (omega arith) ws (c11 .pre .0) (c11 .args .path .now) (omega arith) (c6 .seek .result) (c6 .seek .ensures) (c4 .found .given .0 .0) (c4 .found .given .0 .1 .0) (c4 .found .given .1) (c .before .subtree .result) (c .before .subtree .ensures)
+    run-fits limits (omega arith) (c11 .args .table .now) (c11 .pre .0) (c11 .args .path .now) (omega arith) (c6 .seek .result) (c6 .seek .ensures) (c4 .found .given .0 .0) (c4 .found .given .0 .1 .0) (c4 .found .given .1) (c .before .subtree .result) (c .before .subtree .ensures)
 
 part-close-gap-end : tie.Need-part-close-gap-end
 part-close-gap-end c =
@@ -74,8 +65,7 @@ part-close-gap-end c =
     let c7 = c4 .before .before .before in
     let c9 = c7 .before .before in
     let c14 = c9 .before .before .before .before .before in
-    let ws = c14 .args .table .now in
-    moved-long limits (omega arith) ws (c14 .pre .0) (c14 .args .path .now) (omega arith) (c9 .seek .result) (c9 .seek .ensures) (c7 .found .given .0 .0) (c7 .found .given .0 .1 .0) (c7 .found .given .1) (c4 .subtree .result)
+    moved-long limits (omega arith) (c14 .args .table .now) (c14 .pre .0) (c14 .args .path .now) (omega arith) (c9 .seek .result) (c9 .seek .ensures) (c7 .found .given .0 .0) (c7 .found .given .0 .1 .0) (c7 .found .given .1) (c4 .subtree .result)
     (c4 .subtree .ensures) (c .before .before .close-gap .last .0) (c .before .before .close-gap .ensures)
 
 close-gap-requires-2 : tie.Need-close-gap-requires-2
@@ -85,8 +75,7 @@ close-gap-requires-2 c κs =
     let c8 = c5 .before .before .before in
     let c10 = c8 .before .before in
     let c15 = c10 .before .before .before .before .before in
-    let ws = c15 .args .table .now in
-    moved-range limits (omega arith) ws (c15 .pre .0) (c15 .args .path .now) (omega arith) (c10 .seek .result) (c10 .seek .ensures) (c8 .found .given .0 .0) (c8 .found .given .0 .1 .0) (c8 .found .given .1) (c5 .subtree .result)
+    moved-range limits (omega arith) (c15 .args .table .now) (c15 .pre .0) (c15 .args .path .now) (omega arith) (c10 .seek .result) (c10 .seek .ensures) (c8 .found .given .0 .0) (c8 .found .given .0 .1 .0) (c8 .found .given .1) (c5 .subtree .result)
     (c5 .subtree .ensures) (c3 .close-gap .last .0) (c3 .close-gap .ensures)
 
 returns-2 : tie.Need-returns-2
@@ -96,21 +85,18 @@ returns-2 c =
     let c11 = c8 .before .before .before in
     let c13 = c11 .before .before in
     let c18 = c13 .before .before .before .before .before in
-    let ws = c18 .args .table .now in
-    moved limits (omega arith) ws (c18 .pre .0) (c18 .args .path .now) (omega arith) (c13 .seek .result) (c13 .seek .ensures) (c11 .found .given .0 .0) (c11 .found .given .0 .1 .0) (c11 .found .given .1) (c8 .subtree .result)
+    moved limits (omega arith) (c18 .args .table .now) (c18 .pre .0) (c18 .args .path .now) (omega arith) (c13 .seek .result) (c13 .seek .ensures) (c11 .found .given .0 .0) (c11 .found .given .0 .1 .0) (c11 .found .given .1) (c8 .subtree .result)
     (c8 .subtree .ensures) (c6 .close-gap .last .0) (c6 .close-gap .ensures) _ (c .before .before .close-gap2 .ensures)
 
 returns-3 : tie.Need-returns-3
 returns-3 c =
-    let ws = c .before .before .before .before .before .before .before .args .table .now in
-    removed-before limits (omega arith) ws (c .before .before .before .before .before .before .before .pre .0) (c .before .before .before .before .before .before .before .args .path .now) (omega arith) (c .before .before .seek .result) (c .before .before .seek .ensures) _ (c .enum-told .given .1)
+    removed-before limits (omega arith) (c .before .before .before .before .before .before .before .args .table .now) (c .before .before .before .before .before .before .before .pre .0) (c .before .before .before .before .before .before .before .args .path .now) (omega arith) (c .before .before .seek .result) (c .before .before .seek .ensures) _ (c .enum-told .given .1)
 
 returns-4 : tie.Need-returns-4
 returns-4 c =
     let c3 = c .before .before .before in
     let c8 = c3 .before .before .before .before .before in
-    let ws = c8 .args .table .now in
-    removed-missing limits (omega arith) ws (c8 .pre .0) (c8 .args .path .now) (omega arith) (c3 .seek .result) (c3 .seek .ensures) (c .before .found2 .given .0 .0) (c .before .found2 .given .1)
+    removed-missing limits (omega arith) (c8 .args .table .now) (c8 .pre .0) (c8 .args .path .now) (omega arith) (c3 .seek .result) (c3 .seek .ensures) (c .before .found2 .given .0 .0) (c .before .found2 .given .1)
 
 pub remove-level-spec : {M : Type 1} → statement M
 remove-level-spec =

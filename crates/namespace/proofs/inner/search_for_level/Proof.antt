@@ -24,18 +24,16 @@ returns-2 : tie.Need-returns-2
 returns-2 c =
     let c3 = c .before .before .before in
     let c5 = c3 .before .before in
-    let ws = c5 .args .table .now in
     let len : length (c5 .args .level-name .bytes) ≡ 128 = search needs in
     same-told (sym (name-whole componentLimit (c5 .args .level-name) len (c5 .pre .1))) refl
-    ∙ ap (told componentLimit) (level-same limits ws (c5 .args .level-name) (c5 .args .starting-scope) (c5 .pre .0) (c5 .pre .1) (sym (c3 .is-bare .ensures) ∙ c .before .before .if1 .left) (sym (c .before .is-path .ensures) ∙ c .if2 .taken))
+    ∙ ap (told componentLimit) (level-same limits (c5 .args .table .now) (c5 .args .level-name) (c5 .args .starting-scope) (c5 .pre .0) (c5 .pre .1) (sym (c3 .is-bare .ensures) ∙ c .before .before .if1 .left) (sym (c .before .is-path .ensures) ∙ c .if2 .taken))
 
 returns-3 : tie.Need-returns-3
 returns-3 c =
     let c3 = c .before .before .before in
     let c4 = c3 .before in
     let c6 = c4 .before .before in
-    let ws = c6 .args .table .now in
-    c .no-level .ensures ∙ ap (told componentLimit) (level-other limits ws (c6 .args .level-name) (c6 .args .starting-scope) (c6 .pre .0) (c6 .pre .1) (sym (c4 .is-bare .ensures) ∙ c3 .if1 .left)
+    c .no-level .ensures ∙ ap (told componentLimit) (level-other limits (c6 .args .table .now) (c6 .args .level-name) (c6 .args .starting-scope) (c6 .pre .0) (c6 .pre .1) (sym (c4 .is-bare .ensures) ∙ c3 .if1 .left)
     (sym (c .before .before .is-path .ensures) ∙ c .before .if2 .left))
 
 pub search-for-level-spec : {M : Type 1} → statement M

@@ -19,21 +19,16 @@ use native.Mathlib.Omega.{arith}
 use Rattle.namespace.proofs.inner.search_up.Statement.{statement}
 use Rattle.namespace.proofs.inner.search_up.Tie as tie
 
-keys-of-requires : tie.Need-keys-of-requires
-keys-of-requires c κs = c .before .pre .2
-
 bare-key-requires : tie.Need-bare-key-requires
 bare-key-requires c κs = c .before .before .pre .1
 
 slice-aggregate-nearest-value : tie.Need-slice-aggregate-nearest-value
 slice-aggregate-nearest-value c =
-    let ws = c .before .before .before .before .args .table .now in
-    sym (length-ls limits (omega arith) ws (c .before .before .before .before .pre .0))
+    sym (length-ls limits (omega arith) (c .before .before .before .before .args .table .now) (c .before .before .before .before .pre .0))
 
 part-nearest-value-end : tie.Need-part-nearest-value-end
 part-nearest-value-end c =
-    let ws = c .before .before .before .before .args .table .now in
-    omega (arith, long limits (omega arith) ws (c .before .before .before .before .pre .0))
+    omega (arith, long limits (omega arith) (c .before .before .before .before .args .table .now) (c .before .before .before .before .pre .0))
 
 array-share-prefix-keys : tie.Need-array-share-prefix-keys
 array-share-prefix-keys c =
@@ -59,7 +54,7 @@ returns c =
     let c9 = c7 .before .before in
     let ws = c9 .args .table .now in
     c .not-found .ensures ∙ ap (told componentLimit) (sym (up-none ws (c9 .pre .0) (c9 .args .scope) (c9 .pre .2) (firstOf (pathOf (c9 .args .path))) (c .before .before .nearest-value .result)
-    (c .before .before .nearest-value .ensures ∙ ap₂ (λ (k : ℕ) (p : List ℕ). nearIn k p (take 128 ws) (take 512 (drop 128 ws)) 0 0 farthest) (c6 .bare-key .ensures) (c7 .keys-of .ensures)) (c .before .if1 .taken)))
+    (c .before .before .nearest-value .ensures ∙ ap₂ (λ (k : ℕ) (p : List ℕ). nearIn k p (take 128 ws) (take 512 (drop 128 ws)) 0 0 farthest) (c6 .bare-key .ensures) (c7 .keys-of .ensures (c9 .pre .2))) (c .before .if1 .taken)))
 
 full-name-requires : tie.Need-full-name-requires
 full-name-requires c κs =
@@ -67,7 +62,7 @@ full-name-requires c κs =
     let c6 = c5 .before in
     let c8 = c6 .before .before in
     let ws = c8 .args .table .now in
-    let h1 = c .before .nearest-value .ensures ∙ ap₂ (λ (k : ℕ) (p : List ℕ). nearIn k p (take 128 ws) (take 512 (drop 128 ws)) 0 0 farthest) (c5 .bare-key .ensures) (c6 .keys-of .ensures) in (
+    let h1 = c .before .nearest-value .ensures ∙ ap₂ (λ (k : ℕ) (p : List ℕ). nearIn k p (take 128 ws) (take 512 (drop 128 ws)) 0 0 farthest) (c5 .bare-key .ensures) (c6 .keys-of .ensures (c8 .pre .2)) in (
       c8 .pre .2,
       c8 .pre .1,
       up-range ws (c8 .pre .0) (c8 .args .scope) (c8 .pre .2) (firstOf (pathOf (c8 .args .path))) (c .before .nearest-value .result) h1 (c .if1 .left) .0,
@@ -85,7 +80,7 @@ cast-t21 c =
     omega (
       arith,
       up-range ws (c10 .pre .0) (c10 .args .scope) (c10 .pre .2) (firstOf (pathOf (c10 .args .path))) (c3 .nearest-value .result)
-          (c3 .nearest-value .ensures ∙ ap₂ (λ (k : ℕ) (p : List ℕ). nearIn k p (take 128 ws) (take 512 (drop 128 ws)) 0 0 farthest) (c7 .bare-key .ensures) (c8 .keys-of .ensures)) (c .before .before .if1 .left) .2,
+          (c3 .nearest-value .ensures ∙ ap₂ (λ (k : ℕ) (p : List ℕ). nearIn k p (take 128 ws) (take 512 (drop 128 ws)) 0 0 farthest) (c7 .bare-key .ensures) (c8 .keys-of .ensures (c10 .pre .2))) (c .before .before .if1 .left) .2,
     )
 
 sub-t13 : tie.Need-sub-t13
@@ -96,11 +91,10 @@ sub-t13 c =
     let c10 = c8 .before .before in
     let ws = c10 .args .table .now in
     up-range ws (c10 .pre .0) (c10 .args .scope) (c10 .pre .2) (firstOf (pathOf (c10 .args .path))) (c3 .nearest-value .result)
-    (c3 .nearest-value .ensures ∙ ap₂ (λ (k : ℕ) (p : List ℕ). nearIn k p (take 128 ws) (take 512 (drop 128 ws)) 0 0 farthest) (c7 .bare-key .ensures) (c8 .keys-of .ensures)) (c .before .before .if1 .left) .0
+    (c3 .nearest-value .ensures ∙ ap₂ (λ (k : ℕ) (p : List ℕ). nearIn k p (take 128 ws) (take 512 (drop 128 ws)) 0 0 farthest) (c7 .bare-key .ensures) (c8 .keys-of .ensures (c10 .pre .2))) (c .before .before .if1 .left) .0
 
 add-t23 : tie.Need-add-t23
 add-t23 c =
-    let ws = c .before .before .before .before .before .before .before .before .before .before .args .table .now in
     let n = settled-count (c .before .before .before .before .before .before .before .before .before .before .args .scope) (c .before .before .before .before .before .before .before .before .before .before .pre .2) in omega arith
 
 returns-2 : tie.Need-returns-2
@@ -111,11 +105,11 @@ returns-2 c =
     let c10 = c8 .before .before in
     let ws = c10 .args .table .now in
     up-found ws (c10 .pre .0) (c10 .args .scope) (c10 .pre .2) (firstOf (pathOf (c10 .args .path))) (c3 .nearest-value .result)
-    (c3 .nearest-value .ensures ∙ ap₂ (λ (k : ℕ) (p : List ℕ). nearIn k p (take 128 ws) (take 512 (drop 128 ws)) 0 0 farthest) (c7 .bare-key .ensures) (c8 .keys-of .ensures)) (c .before .before .if1 .left)
+    (c3 .nearest-value .ensures ∙ ap₂ (λ (k : ℕ) (p : List ℕ). nearIn k p (take 128 ws) (take 512 (drop 128 ws)) 0 0 farthest) (c7 .bare-key .ensures) (c8 .keys-of .ensures (c10 .pre .2))) (c .before .before .if1 .left)
     (c .before .full-name .result) (c .before .full-name .ensures)
 
 pub search-up-spec : {M : Type 1} → statement M
 search-up-spec =
-    tie.close (tie.spec keys-of-requires bare-key-requires slice-aggregate-nearest-value (λ c. search needs) (λ c. search needs) part-nearest-value-end
+    tie.close (tie.spec (λ c κs. search needs) bare-key-requires slice-aggregate-nearest-value (λ c. search needs) (λ c. search needs) part-nearest-value-end
     array-share-prefix-keys slice-aggregate-nearest-value-2 nearest-value-requires (λ c κs. search needs) returns full-name-requires cast-t21 sub-t13 add-t23
     returns-2)

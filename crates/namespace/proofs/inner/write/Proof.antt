@@ -8,8 +8,7 @@ use Rattle.namespace.proofs.inner.write.Tie as tie
 
 slice-read-made : tie.Need-slice-read-made
 slice-read-made c =
-    let ws = c .before .before .args .table .now in
-    omega (arith, long limits (omega arith) ws (c .before .before .pre))
+    omega (arith, long limits (omega arith) (c .before .before .args .table .now) (c .before .before .pre))
 
 slice-write-table : tie.Need-slice-write-table
 slice-write-table c =
@@ -18,13 +17,11 @@ slice-write-table c =
 
 returns : tie.Need-returns
 returns c =
-    let ws = c .before .before .before .args .table .now in
-    set-found limits (omega arith) ws (c .before .before .before .pre) (c .before .before .before .args .handle .0) (c .if1 .taken) (c .before .before .before .args .value)
+    set-found limits (omega arith) (c .before .before .before .args .table .now) (c .before .before .before .pre) (c .before .before .before .args .handle .0) (c .if1 .taken) (c .before .before .before .args .value)
 
 returns-2 : tie.Need-returns-2
 returns-2 c =
-    let ws = c .before .before .before .args .table .now in
-    set-none limits (omega arith) ws (c .before .before .before .pre) (c .before .before .before .args .handle .0) (c .if1 .left) (c .before .before .before .args .value)
+    set-none limits (omega arith) (c .before .before .before .args .table .now) (c .before .before .before .pre) (c .before .before .before .args .handle .0) (c .if1 .left) (c .before .before .before .args .value)
 
 pub write-spec : {M : Type 1} → statement M
 write-spec =

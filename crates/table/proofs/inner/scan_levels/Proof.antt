@@ -3,7 +3,7 @@ use mathlib.Core.Path.{_≡_, refl, sym, _∙_}
 use Prim.Native.Nat.{_-_, _≤_}
 use lib.ListN.{length, drop, getD, length-set}
 use Rattle.name_object.specs.Component.{componentLimit}
-use Rattle.table.specs.Inside.{scan, lowest}
+use Rattle.table.specs.Inside.{scan, lowest, below}
 use Rattle.table.proofs.Turns.{turn-zero, turn-unfit, turn-pass, turn-end, passed-rank, passed-room}
 use borrow.Author.Needs.{needs}
 use native.Mathlib.Omega.{arith}
@@ -13,7 +13,7 @@ use Rattle.table.proofs.inner.scan_levels.Tie as tie
 abbrev Inv-loop : tie.InvT-loop
 Inv-loop levels bindings made low₀ p₀ m₀ k₀ low p m k =
     (length low ≡ 34) × (p ≤ 32) × (k ≤ length levels) × (m ≤ length bindings)
-    × (scan componentLimit made p low (drop k levels) (drop m bindings) ≡ scan componentLimit made 0 (lowest componentLimit) levels bindings)
+    × (scan componentLimit (below made) p low (drop k levels) (drop m bindings) ≡ scan componentLimit (below made) 0 (lowest componentLimit) levels bindings)
 
 abbrev μ-loop : tie.MeasureT-loop
 μ-loop levels bindings made low₀ p₀ m₀ k₀ low p m k = length levels - k
@@ -25,13 +25,13 @@ returns : tie.Need-returns Inv-loop μ-loop
 returns c =
     let l = c .before .before .before .before .before .before .loop in
     let a = c .before .before .before .before .before .before .before .before .before .args in
-    c .rest-zero2 .ensures ∙ sym (turn-zero componentLimit (a .made) (l .p) (l .low) (a .levels .now) (l .k) (a .bindings .now) (l .m) (omega arith) (c .before .before .before .if1 .taken) ∙ rw (sym (c .before .before .rest-zero .ensures) ∙ c .before .if2 .taken)) ∙ l .inv .4
+    c .rest-zero2 .ensures ∙ sym (turn-zero componentLimit (below (a .made)) (l .p) (l .low) (a .levels .now) (l .k) (a .bindings .now) (l .m) (omega arith) (c .before .before .before .if1 .taken) ∙ rw (sym (c .before .before .rest-zero .ensures) ∙ c .before .if2 .taken)) ∙ l .inv .4
 
 returns-2 : tie.Need-returns-2 Inv-loop μ-loop
 returns-2 c =
     let l = c .before .before .before .before .before .loop in
     let a = c .before .before .before .before .before .before .before .before .args in
-    sym (turn-zero componentLimit (a .made) (l .p) (l .low) (a .levels .now) (l .k) (a .bindings .now) (l .m) (omega arith) (c .before .before .if1 .taken) ∙ rw (sym (c .before .rest-zero .ensures) ∙ c .if2 .left)) ∙ l .inv .4
+    sym (turn-zero componentLimit (below (a .made)) (l .p) (l .low) (a .levels .now) (l .k) (a .bindings .now) (l .m) (omega arith) (c .before .before .if1 .taken) ∙ rw (sym (c .before .rest-zero .ensures) ∙ c .if2 .left)) ∙ l .inv .4
 
 mul-low : tie.Need-mul-low Inv-loop μ-loop
 mul-low c =
@@ -40,7 +40,7 @@ mul-low c =
     let l = c6 .loop in
     let a = c9 .args in
     let h1 = sym (c .before .record-fits .ensures) ∙ c .if3 .taken in
-    omega (arith, passed-rank componentLimit (a .made) (l .p) (l .low) (getD (a .levels .now) (l .k) 0) (l .m) (a .bindings .now) h1, passed-room componentLimit (a .made) (l .p) (l .low) (getD (a .levels .now) (l .k) 0) (l .m) (a .bindings .now) h1)
+    omega (arith, passed-rank componentLimit (below (a .made)) (l .p) (l .low) (getD (a .levels .now) (l .k) 0) (l .m) (a .bindings .now) h1, passed-room componentLimit (below (a .made)) (l .p) (l .low) (getD (a .levels .now) (l .k) 0) (l .m) (a .bindings .now) h1)
 
 array-write-low : tie.Need-array-write-low Inv-loop μ-loop
 array-write-low c =
@@ -49,7 +49,7 @@ array-write-low c =
     let l = c6 .loop in
     let a = c9 .args in
     let h1 = sym (c .before .record-fits .ensures) ∙ c .if3 .taken in
-    omega (arith, passed-rank componentLimit (a .made) (l .p) (l .low) (getD (a .levels .now) (l .k) 0) (l .m) (a .bindings .now) h1, passed-room componentLimit (a .made) (l .p) (l .low) (getD (a .levels .now) (l .k) 0) (l .m) (a .bindings .now) h1)
+    omega (arith, passed-rank componentLimit (below (a .made)) (l .p) (l .low) (getD (a .levels .now) (l .k) 0) (l .m) (a .bindings .now) h1, passed-room componentLimit (below (a .made)) (l .p) (l .low) (getD (a .levels .now) (l .k) 0) (l .m) (a .bindings .now) h1)
 
 add-low-2 : tie.Need-add-low-2 Inv-loop μ-loop
 add-low-2 c =
@@ -58,7 +58,7 @@ add-low-2 c =
     let l = c6 .loop in
     let a = c9 .args in
     let h1 = sym (c .before .record-fits .ensures) ∙ c .if3 .taken in
-    omega (arith, passed-rank componentLimit (a .made) (l .p) (l .low) (getD (a .levels .now) (l .k) 0) (l .m) (a .bindings .now) h1, passed-room componentLimit (a .made) (l .p) (l .low) (getD (a .levels .now) (l .k) 0) (l .m) (a .bindings .now) h1)
+    omega (arith, passed-rank componentLimit (below (a .made)) (l .p) (l .low) (getD (a .levels .now) (l .k) 0) (l .m) (a .bindings .now) h1, passed-room componentLimit (below (a .made)) (l .p) (l .low) (getD (a .levels .now) (l .k) 0) (l .m) (a .bindings .now) h1)
 
 mul-low-2 : tie.Need-mul-low-2 Inv-loop μ-loop
 mul-low-2 c =
@@ -67,7 +67,7 @@ mul-low-2 c =
     let l = c6 .loop in
     let a = c9 .args in
     let h1 = sym (c .before .record-fits .ensures) ∙ c .if3 .taken in
-    omega (arith, passed-rank componentLimit (a .made) (l .p) (l .low) (getD (a .levels .now) (l .k) 0) (l .m) (a .bindings .now) h1, passed-room componentLimit (a .made) (l .p) (l .low) (getD (a .levels .now) (l .k) 0) (l .m) (a .bindings .now) h1)
+    omega (arith, passed-rank componentLimit (below (a .made)) (l .p) (l .low) (getD (a .levels .now) (l .k) 0) (l .m) (a .bindings .now) h1, passed-room componentLimit (below (a .made)) (l .p) (l .low) (getD (a .levels .now) (l .k) 0) (l .m) (a .bindings .now) h1)
 
 array-write-low-2 : tie.Need-array-write-low-2 Inv-loop μ-loop
 array-write-low-2 c =
@@ -76,7 +76,7 @@ array-write-low-2 c =
     let l = c6 .loop in
     let a = c9 .args in
     let h1 = sym (c .before .record-fits .ensures) ∙ c .if3 .taken in
-    omega (arith, passed-rank componentLimit (a .made) (l .p) (l .low) (getD (a .levels .now) (l .k) 0) (l .m) (a .bindings .now) h1, passed-room componentLimit (a .made) (l .p) (l .low) (getD (a .levels .now) (l .k) 0) (l .m) (a .bindings .now) h1)
+    omega (arith, passed-rank componentLimit (below (a .made)) (l .p) (l .low) (getD (a .levels .now) (l .k) 0) (l .m) (a .bindings .now) h1, passed-room componentLimit (below (a .made)) (l .p) (l .low) (getD (a .levels .now) (l .k) 0) (l .m) (a .bindings .now) h1)
 
 add-m : tie.Need-add-m Inv-loop μ-loop
 add-m c =
@@ -85,30 +85,30 @@ add-m c =
     let l = c6 .loop in
     let a = c9 .args in
     let h1 = sym (c .before .record-fits .ensures) ∙ c .if3 .taken in
-    omega (arith, passed-rank componentLimit (a .made) (l .p) (l .low) (getD (a .levels .now) (l .k) 0) (l .m) (a .bindings .now) h1, passed-room componentLimit (a .made) (l .p) (l .low) (getD (a .levels .now) (l .k) 0) (l .m) (a .bindings .now) h1)
+    omega (arith, passed-rank componentLimit (below (a .made)) (l .p) (l .low) (getD (a .levels .now) (l .k) 0) (l .m) (a .bindings .now) h1, passed-room componentLimit (below (a .made)) (l .p) (l .low) (getD (a .levels .now) (l .k) 0) (l .m) (a .bindings .now) h1)
 
 returns-3 : tie.Need-returns-3 Inv-loop μ-loop
 returns-3 c =
     let l = c .before .before .before .before .before .before .loop in
     let a = c .before .before .before .before .before .before .before .before .before .args in
-    sym (turn-unfit componentLimit (a .made) (l .p) (l .low) (a .levels .now) (l .k) (a .bindings .now) (l .m) (omega arith) (c .before .before .before .if1 .left) (sym (c .before .record-fits .ensures) ∙ c .if3 .left)) ∙ l .inv .4
+    sym (turn-unfit componentLimit (below (a .made)) (l .p) (l .low) (a .levels .now) (l .k) (a .bindings .now) (l .m) (omega arith) (c .before .before .before .if1 .left) (sym (c .before .record-fits .ensures) ∙ c .if3 .left)) ∙ l .inv .4
 
 loop-again : tie.Need-loop-again Inv-loop μ-loop
 loop-again c =
     let l = c .before .before .before .before .before .before .loop in
     let a = c .before .before .before .before .before .before .before .before .before .args in (
       simp length-set (l .inv .0),
-      passed-rank componentLimit (a .made) (l .p) (l .low) (getD (a .levels .now) (l .k) 0) (l .m) (a .bindings .now) (sym (c .before .record-fits .ensures) ∙ c .if3 .taken),
+      passed-rank componentLimit (below (a .made)) (l .p) (l .low) (getD (a .levels .now) (l .k) 0) (l .m) (a .bindings .now) (sym (c .before .record-fits .ensures) ∙ c .if3 .taken),
       omega arith,
-      omega (arith, passed-room componentLimit (a .made) (l .p) (l .low) (getD (a .levels .now) (l .k) 0) (l .m) (a .bindings .now) (sym (c .before .record-fits .ensures) ∙ c .if3 .taken)),
-      sym (turn-pass componentLimit (a .made) (l .p) (l .low) (a .levels .now) (l .k) (a .bindings .now) (l .m) (omega arith) (c .before .before .before .if1 .left) (sym (c .before .record-fits .ensures) ∙ c .if3 .taken)) ∙ l .inv .4,
+      omega (arith, passed-room componentLimit (below (a .made)) (l .p) (l .low) (getD (a .levels .now) (l .k) 0) (l .m) (a .bindings .now) (sym (c .before .record-fits .ensures) ∙ c .if3 .taken)),
+      sym (turn-pass componentLimit (below (a .made)) (l .p) (l .low) (a .levels .now) (l .k) (a .bindings .now) (l .m) (omega arith) (c .before .before .before .if1 .left) (sym (c .before .record-fits .ensures) ∙ c .if3 .taken)) ∙ l .inv .4,
     )
 
 returns-4 : tie.Need-returns-4 Inv-loop μ-loop
 returns-4 c =
     let l = c .before .before .loop in
     let a = c .before .before .before .before .before .args in
-    c .rest-zero3 .ensures ∙ sym (turn-end componentLimit (a .made) (l .p) (l .low) (a .levels .now) (l .k) (drop (l .m) (a .bindings .now)) (omega arith)) ∙ l .inv .4
+    c .rest-zero3 .ensures ∙ sym (turn-end componentLimit (below (a .made)) (l .p) (l .low) (a .levels .now) (l .k) (drop (l .m) (a .bindings .now)) (omega arith)) ∙ l .inv .4
 
 pub scan-levels-spec : {M : Type 1} → statement M
 scan-levels-spec =
