@@ -1,14 +1,14 @@
 -- Small facts about tests and numbers that the laws cite.
-use mathlib.Core.Path.{_≡_, refl}
+use mathlib.Core.Path.{_≡_, refl, ap, sym, _∙_}
 use mathlib.Core.Bool.{Bool, true, false, _&&_}
 use mathlib.Core.Logic.{_⊎_, inl, inr}
-use Prim.Native.Nat.{ℕ, _<_, _≤_}
+use mathlib.Core.List.{List}
+use Prim.Native.Nat.{ℕ, _+_, _<_, _≤_}
 use native.Mathlib.Omega.{arith}
 use lib.Dec.{ltb}
+use lib.ListN.{length, take, drop}
+use lib.Seq.{slice, take-add, drop-at, length-take-le}
 use borrow.Author.Tests.{ltb-true, ltb-false}
-
-pub clash : {A : Type 0} → true ≡ false → A
-clash e = absurd (let z : _≡_ {A = ℕ} 0 1 = cc in omega arith)
 
 -- both halves of a test
 pub both : (t u : Bool) → t && u ≡ true → (t ≡ true) × (u ≡ true)
@@ -21,3 +21,7 @@ lt-or-le m n = go (ltb m n) refl
     go : (t : Bool) → ltb m n ≡ t → (m < n) ⊎ (n ≤ m)
     go true e = inl (ltb-true m n e)
     go false e = inr (ltb-false m n e)
+
+-- a part of a list by its ends
+pub take-slice : (f n : ℕ) (l : List ℕ) → f ≤ length l → take n (drop f l) ≡ slice f (f + n) l
+take-slice f n l h = sym (ap (drop f) (take-add f n l) ∙ drop-at (take f l) (take n (drop f l)) f (length-take-le f l h))

@@ -1,23 +1,19 @@
 -- What well-formed memory shows of its tree: where paths lead, and whether there is room.
 use mathlib.Core.Path.{_≡_, refl, ap, ap₂, sym, _∙_}
-use mathlib.Core.Bool.{Bool, true}
-use mathlib.Core.List.{List, [], _∷_, _++_, map, map-append}
+use mathlib.Core.Bool.{true}
+use mathlib.Core.List.{List, [], _∷_, _++_, map}
 use mathlib.Core.Logic.{⊎-elim}
 use Prim.Native.Nat.{ℕ, zero, suc, _+_, _-_, _<_, _≤_, _^_}
 use native.Mathlib.Omega.{arith}
-use native.Mathlib.Nat.{not-suc-le-zero, le-of-suc-le-suc, eq-or-lt-of-le}
-use lib.Dec.{leb, ltb}
+use native.Mathlib.Nat.{eq-or-lt-of-le}
 use lib.ListN.{length, take, drop, getD, replicate, List·getD-append, take-append-drop}
 use lib.Seq.{getD-append-add, take-suc, take-all, length-take-le, drop-drop}
 use Rattle.table.specs.Limits.{Limits}
-use Rattle.table.specs.Tree.{Binding, Forest, none, level, bound, isLive}
-use Rattle.table.specs.Layout.{pack, flat, pad, encode, bindWord}
-use Rattle.table.specs.Valid.{rising}
+use Rattle.table.specs.Tree.{Binding, Forest, bound, isLive}
+use Rattle.table.specs.Layout.{flat, pad, encode, bindWord}
 use Rattle.table.specs.Memory.{wellFormed, decode}
 use Rattle.table.specs.Edits.{scopeOf, lastOf, withLevels}
 use Rattle.table.specs.Inside.{seekIn}
-use Rattle.table.proofs.Shape.{Valid, binding-tests}
-use Rattle.table.proofs.Numbers.{segment-range}
 use Rattle.table.proofs.Decode.{below-spare}
 use Rattle.table.proofs.Whole.{length-words}
 use Rattle.table.proofs.Memory.{levelPart, bindPart, objectPart, first-is, second-is, third-is}

@@ -16,14 +16,14 @@ use Rattle.table.specs.Limits.{Limits}
 use Rattle.table.specs.Tree.{Binding, Forest, none, level, Tree, Level, bound, isLive}
 use Rattle.table.specs.Layout.{flat, encode, bindWord}
 use Rattle.table.specs.Valid.{segmentOk, some, valid}
-use Rattle.table.specs.Memory.{wellFormed, means, Edited, left, freshTree}
+use Rattle.table.specs.Memory.{wellFormed, means, Edited, left, freshTree, decode}
 use Rattle.table.specs.Edits.{levelAt, Change, alter, scopeOf, lastOf, isBound, withBinding, withLevels, withObjects, nextHandle, addLevel, removeLevel, lookUp, bind, addValue, addAlias, setValue}
 use Rattle.table.specs.Inside.{Sought, here, before, missing, counts, slotIn}
 use Rattle.table.specs.Search.{Found, orOn, outward}
 use Rattle.table.specs.declared.inner.Slot.{Slot}
 use Rattle.table.proofs.Shape.{Valid, fit}
 use Rattle.table.proofs.Whole.{Whole, valid-whole}
-use Rattle.table.proofs.Memory.{means-encode, means-whole, one-tree, encode-formed}
+use Rattle.table.proofs.Memory.{means-encode, means-whole, one-tree, encode-formed, formed-whole}
 use Rattle.table.proofs.Objects.{fresh-valid}
 use Rattle.table.proofs.Seek.{seekF, lacking, lacks}
 use Rattle.table.proofs.Focus.{Focus, focus}
@@ -32,7 +32,7 @@ use Rattle.table.proofs.AddLevel.{add-root, add-here, add-missing, add-
 use Rattle.table.proofs.Remove.{remove-root, remove-here, remove-before, remove-missing, removed-whole}
 use Rattle.table.proofs.Slots.{rising-more, FreeAt, slot-bound, slot-free}
 use Rattle.table.proofs.Bind.{new, same-count, one-bound, bound-valid}
-use Rattle.table.proofs.Near.{level-ordered, handle-live}
+use Rattle.table.proofs.Near.{level-stands, handle-live}
 
 gives-same : {A : Type 0} {a b : A} → gives a ≡ gives b → a ≡ b
 gives-same e = cc
@@ -42,19 +42,37 @@ no-gift e = absurd (let z : _≡_ {A = ℕ} 0 1 = cc in omega arith)
 
 -- Memory.
 
--- well-formed memory means exactly one tree
-pub memory-means-one-tree : (m : Limits) (ws : List ℕ) (t u : Tree) → m .objects ≤ 2 ^ 32 → valid m t ≡ true → valid m u ≡ true → ws ≡ encode m t → ws ≡ encode m u → t ≡ u
-memory-means-one-tree = one-tree
+-- a tree that the words are written from
+pub record WrittenFrom (m : Limits) (ws : List ℕ) (t : Tree) : Type 0 where
+  pub allowed : valid m t ≡ true
+  pub words : ws ≡ encode m t
+
+-- memory is well-formed exactly when it is written from a valid tree, and that is then the only one
+pub memory-means-one-tree : (m : Limits) (ws : List ℕ) → m .objects ≤ 2 ^ 32
+    → (wellFormed m ws ≡ true) ↔ ((t : Tree) × WrittenFrom m ws t × ((u : Tree) → WrittenFrom m ws u → t ≡ u))
+memory-means-one-tree m ws hm = (there, λ h. ap (wellFormed m) (h .1 .words) ∙ encode-formed m hm (h .0) (valid-whole m (h .0) (h .1 .allowed)))
+  where
+    there : wellFormed m ws ≡ true → (t : Tree) × WrittenFrom m ws t × ((u : Tree) → WrittenFrom m ws u → t ≡ u)
+    there ok = let f = formed-whole m ws ok in (decode m ws, record { allowed = f .0; words = f .1 }, λ u w. one-tree m ws (decode m ws) u hm (f .0) (w .allowed) (f .1) (w .words))
 
 -- words mean a tree exactly when they are what that valid tree is written as
 pub means-is-written : (m : Limits) (ws : List ℕ) (t : Tree) → m .objects ≤ 2 ^ 32 → (means m ws ≡ gives t) ↔ ((valid m t ≡ true) × (ws ≡ encode m t))
 means-is-written m ws t hm = ((λ h. means-whole m ws t h), (λ h. ap (means m) (h .1) ∙ means-encode m t hm (h .0)))
 
+-- and refused by 24 exactly when no valid tree is written so
+pub memory-refused : (m : Limits) (ws : List ℕ) → m .objects ≤ 2 ^ 32 → (means m ws ≡ refuses 24 0) ↔ ((t : Tree) → WrittenFrom m ws t → ⊥)
+unfolding means
+memory-refused m ws hm = (λ h t w. no-gift (sym h ∙ means-is-written m ws t hm .1 (w .allowed, w .words)), λ h. go (wellFormed m ws) refl h)
+  where
+    go : (x : Bool) → wellFormed m ws ≡ x → ((t : Tree) → WrittenFrom m ws t → ⊥) → cond x (gives (decode m ws)) (refuses 24 0) ≡ refuses 24 0
+    go true e h = let x = memory-means-one-tree m ws hm .0 e in absurd (h (x .0) (x .1))
+    go false e h = refl
+
 -- a fresh table is well-formed
 pub fresh-is-well-formed : (m : Limits) → m .objects ≤ 2 ^ 32 → 0 < m .levels → 0 < m .components → wellFormed m (encode m freshTree) ≡ true
 fresh-is-well-formed m hm h k = encode-formed m hm freshTree (valid-whole m freshTree (fresh-valid m h k))
 
--- whatever an edit leaves is well-formed, where the tree that it gives is valid; a refusal leaves the words as they were
+-- whatever an edit leaves of well-formed memory is well-formed, where the tree that it gives is valid: a refusal leaves the words as they were
 pub left-is-well-formed : {A : Type 0} (m : Limits) (hm : m .objects ≤ 2 ^ 32) (ws : List ℕ) (a : Answer (Edited A)) → wellFormed m ws ≡ true
     → ((e : Edited A) → a ≡ gives e → Whole m (e .tree)) → wellFormed m (left m ws a .words) ≡ true
 left-is-well-formed m hm ws (gives e) ok h = encode-formed m hm (e .tree) (h e refl)
@@ -232,7 +250,7 @@ look-up-live m t p h w e = go (leb (length p) 1) e
   where
     found : (a : Answer Level) → levelAt 0 (t .levels) (scopeOf p) ≡ a → andThen a (λ l. Rattle.table.specs.Edits.handleIn (lastOf p) (l .bindings)) ≡ gives h → isLive t h ≡ true
     found (gives l) q e =
-        handle-live (isLive t) 0 (lastOf p) h (l .bindings) (level-ordered (m .components) (isLive t) (t .levels) 1 0 0 (scopeOf p) l (w .forest) q) e
+        handle-live (isLive t) 0 (lastOf p) h (l .bindings) (level-stands (m .components) (isLive t) (t .levels) 0 0 0 (scopeOf p) l (w .forest) q .fits .ordered) e
     found (refuses a b) q e = no-gift e
 
     go : (x : Bool) → cond x (refuses 13 0) (andThen (levelAt 0 (t .levels) (scopeOf p)) (λ l. Rattle.table.specs.Edits.handleIn (lastOf p) (l .bindings))) ≡ gives h → isLive t h ≡ true

@@ -12,11 +12,12 @@ use Rattle.pkg_length.specs.Refusal.{Answer, gives, refuses, andThen}
 use Rattle.name_object.specs.Component.{Component}
 use Rattle.table.specs.Limits.{Limits}
 use Rattle.table.specs.Tree.{Binding, Forest, none, level, Tree, Level, key, keys, isLive}
-use Rattle.table.specs.Valid.{rising, countOk}
+use Rattle.table.specs.Valid.{rising}
 use Rattle.table.specs.Edits.{levelAt, scopeOf, lastOf, handleIn, lookUp}
 use Rattle.table.specs.Search.{Found, orOn, outward, valueIn}
-use Rattle.table.proofs.Shape.{Valid, level-tests, binding-tests}
+use Rattle.table.proofs.Shape.{Valid, level-tests, binding-tests, LevelFit}
 use Rattle.table.proofs.Whole.{Whole}
+use native.Mathlib.Numerals.{add-one}
 
 pub length-keys : (cs : List Component) → length (keys cs) ≡ length cs
 unfolding keys
@@ -193,70 +194,50 @@ keys-take zero cs = refl
 keys-take (suc n) [] = refl
 keys-take (suc n) (c ∷ cs) = ap (λ (l : List ℕ). key c ∷ l) (keys-take n cs)
 
--- a level of the deepest rank holds nothing
+-- a level that is there may stand where it does
 module _ (limit : ℕ) (live : ℕ → Bool) where
-  pub deep-bindings : (f : Forest) (r lo n : ℕ) (p : List ℕ) (l : Level) → Valid limit live (suc r) lo f → levelAt n f p ≡ gives l → r + length p ≡ limit → l .bindings ≡ []
+  pub record Stands (r : ℕ) (l : Level) : Type 0 where
+    pub lo : ℕ
+    pub fits : LevelFit limit live r lo (l .segment) (l .typ) (l .bindings)
+    pub kids : Valid limit live (suc r) 0 (l .children)
+
+  pub level-stands : (f : Forest) (r lo n : ℕ) (p : List ℕ) (l : Level) → Valid limit live (suc r) lo f → levelAt n f p ≡ gives l → Stands (r + length p) l
   unfolding levelAt
-  deep-bindings none r lo n p l v e h = absurd (let z : _≡_ {A = ℕ} 0 1 = cc in omega arith)
-  deep-bindings (level s′ t b kids next) r lo n [] l v e h = absurd (let z : _≡_ {A = ℕ} 0 1 = cc in omega arith)
-  deep-bindings (level s′ t b kids next) r lo n (x ∷ []) l v e h = go (eqb s′ x) (deep-bindings next r (suc s′) n (x ∷ []) l (v .2)) e
+  level-stands none r lo n p l v e = absurd (let z : _≡_ {A = ℕ} 0 1 = cc in omega arith)
+  level-stands (level s′ t b kids next) r lo n [] l v e = absurd (let z : _≡_ {A = ℕ} 0 1 = cc in omega arith)
+  level-stands (level s′ t b kids next) r lo n (x ∷ []) l v e = go (eqb s′ x) (level-stands next r (suc s′) n (x ∷ []) l (v .2)) e
     where
-      none-left : (b : List Binding) → length b ≡ 0 → b ≡ []
-      none-left [] h = refl
-      none-left (y ∷ b) h = absurd (omega arith)
-
-      counted : countOk limit (suc r) (length b) ≡ true → length b ≡ 0
-      counted k = eqb-true (length b) 0 (sym (rw (le-ltb (suc r) limit (omega arith))) ∙ k)
-
-      go : (y : Bool) → (levelAt n next (x ∷ []) ≡ gives l → r + 1 ≡ limit → l .bindings ≡ []) → cond y (gives (record { segment = s′; typ = t; bindings = b; children = kids })) (levelAt n next (x ∷ [])) ≡ gives l → l .bindings ≡ []
+      go : (y : Bool) → (levelAt n next (x ∷ []) ≡ gives l → Stands (r + 1) l) → cond y (gives (record { segment = s′; typ = t; bindings = b; children = kids })) (levelAt n next (x ∷ [])) ≡ gives l
+          → Stands (r + 1) l
       go true i e =
           let d : record { segment = s′; typ = t; bindings = b; children = kids } ≡ l = cc in
-          sym (ap (λ (m : Level). m .bindings) d) ∙ none-left b (counted (level-tests limit (suc r) lo s′ t (length b) (v .0 .ok) .counted))
-      go false i e = i e h
-  deep-bindings (level s′ t b kids next) r lo n (x ∷ y ∷ p) l v e h = go (eqb s′ x) (deep-bindings kids (suc r) 0 (suc n) (y ∷ p) l (v .1)) (deep-bindings next r (suc s′) n (x ∷ y ∷ p) l (v .2)) e
-    where
-      go : (z : Bool) → (levelAt (suc n) kids (y ∷ p) ≡ gives l → suc r + suc (length p) ≡ limit → l .bindings ≡ []) → (levelAt n next (x ∷ y ∷ p) ≡ gives l → r + suc (suc (length p)) ≡ limit → l .bindings ≡ [])
-          → cond z (levelAt (suc n) kids (y ∷ p)) (levelAt n next (x ∷ y ∷ p)) ≡ gives l → l .bindings ≡ []
-      go true i j e = i e (omega arith)
-      go false i j e = j e h
-
-  pub deep-children : (f : Forest) (r lo n : ℕ) (p : List ℕ) (l : Level) → Valid limit live (suc r) lo f → levelAt n f p ≡ gives l → r + length p ≡ limit → l .children ≡ none
-  unfolding levelAt
-  deep-children none r lo n p l v e h = absurd (let z : _≡_ {A = ℕ} 0 1 = cc in omega arith)
-  deep-children (level s′ t b kids next) r lo n [] l v e h = absurd (let z : _≡_ {A = ℕ} 0 1 = cc in omega arith)
-  deep-children (level s′ t b kids next) r lo n (x ∷ []) l v e h = go (eqb s′ x) (deep-children next r (suc s′) n (x ∷ []) l (v .2)) e
-    where
-      childless : (g : Forest) → Valid limit live (suc (suc r)) 0 g → g ≡ none
-      childless none w = refl
-      childless (level s u c ks ne) w = absurd (omega (arith, w .0 .shallow))
-
-      go : (y : Bool) → (levelAt n next (x ∷ []) ≡ gives l → r + 1 ≡ limit → l .children ≡ none) → cond y (gives (record { segment = s′; typ = t; bindings = b; children = kids })) (levelAt n next (x ∷ [])) ≡ gives l → l .children ≡ none
-      go true i e = let d : record { segment = s′; typ = t; bindings = b; children = kids } ≡ l = cc in sym (ap (λ (m : Level). m .children) d) ∙ childless kids (v .1)
-      go false i e = i e h
-  deep-children (level s′ t b kids next) r lo n (x ∷ y ∷ p) l v e h = go (eqb s′ x) (deep-children kids (suc r) 0 (suc n) (y ∷ p) l (v .1)) (deep-children next r (suc s′) n (x ∷ y ∷ p) l (v .2)) e
-    where
-      go : (z : Bool) → (levelAt (suc n) kids (y ∷ p) ≡ gives l → suc r + suc (length p) ≡ limit → l .children ≡ none) → (levelAt n next (x ∷ y ∷ p) ≡ gives l → r + suc (suc (length p)) ≡ limit → l .children ≡ none)
-          → cond z (levelAt (suc n) kids (y ∷ p)) (levelAt n next (x ∷ y ∷ p)) ≡ gives l → l .children ≡ none
-      go true i j e = i e (omega arith)
-      go false i j e = j e h
-
-  -- a level that is there has its bindings in order
-  pub level-ordered : (f : Forest) (r lo n : ℕ) (p : List ℕ) (l : Level) → Valid limit live r lo f → levelAt n f p ≡ gives l → rising live 0 (l .bindings) ≡ true
-  unfolding levelAt
-  level-ordered none r lo n p l v e = absurd (let z : _≡_ {A = ℕ} 0 1 = cc in omega arith)
-  level-ordered (level s′ t b kids next) r lo n [] l v e = absurd (let z : _≡_ {A = ℕ} 0 1 = cc in omega arith)
-  level-ordered (level s′ t b kids next) r lo n (x ∷ []) l v e = go (eqb s′ x) (level-ordered next r (suc s′) n (x ∷ []) l (v .2)) e
-    where
-      go : (y : Bool) → (levelAt n next (x ∷ []) ≡ gives l → rising live 0 (l .bindings) ≡ true) → cond y (gives (record { segment = s′; typ = t; bindings = b; children = kids })) (levelAt n next (x ∷ [])) ≡ gives l
-          → rising live 0 (l .bindings) ≡ true
-      go true i e = let d : record { segment = s′; typ = t; bindings = b; children = kids } ≡ l = cc in subst (λ (m : Level). rising live 0 (m .bindings) ≡ true) d (v .0 .ordered)
+          subst (Stands (r + 1)) d (rw (add-one r) (record { lo = lo; fits = v .0; kids = v .1 }))
       go false i e = i e
-  level-ordered (level s′ t b kids next) r lo n (x ∷ y ∷ p) l v e = go (eqb s′ x) (level-ordered kids (suc r) 0 (suc n) (y ∷ p) l (v .1)) (level-ordered next r (suc s′) n (x ∷ y ∷ p) l (v .2)) e
+  level-stands (level s′ t b kids next) r lo n (x ∷ y ∷ p) l v e =
+      go (eqb s′ x) (level-stands kids (suc r) 0 (suc n) (y ∷ p) l (v .1)) (level-stands next r (suc s′) n (x ∷ y ∷ p) l (v .2)) e
     where
-      go : (z : Bool) → (levelAt (suc n) kids (y ∷ p) ≡ gives l → rising live 0 (l .bindings) ≡ true) → (levelAt n next (x ∷ y ∷ p) ≡ gives l → rising live 0 (l .bindings) ≡ true)
-          → cond z (levelAt (suc n) kids (y ∷ p)) (levelAt n next (x ∷ y ∷ p)) ≡ gives l → rising live 0 (l .bindings) ≡ true
-      go true i j e = i e
+      moved : (r n : ℕ) → suc r + suc n ≡ r + suc (suc n)
+      moved r n = omega arith
+
+      go : (z : Bool) → (levelAt (suc n) kids (y ∷ p) ≡ gives l → Stands (suc r + suc (length p)) l) → (levelAt n next (x ∷ y ∷ p) ≡ gives l → Stands (r + suc (suc (length p))) l)
+          → cond z (levelAt (suc n) kids (y ∷ p)) (levelAt n next (x ∷ y ∷ p)) ≡ gives l → Stands (r + suc (suc (length p))) l
+      go true i j e = subst (λ (k : ℕ). Stands k l) (moved r (length p)) (i e)
       go false i j e = j e
+
+  -- one of the deepest rank holds nothing
+  pub deep-bindings : (r : ℕ) (l : Level) → Stands r l → r ≡ limit → l .bindings ≡ []
+  deep-bindings r l s h = empty (l .bindings) (eqb-true _ 0 (sym (rw (le-ltb r limit (omega arith))) ∙ level-tests limit r (s .lo) (l .segment) (l .typ) (length (l .bindings)) (s .fits .ok) .counted))
+    where
+      empty : (b : List Binding) → length b ≡ 0 → b ≡ []
+      empty [] h = refl
+      empty (y ∷ b) h = absurd (omega arith)
+
+  pub deep-children : (r : ℕ) (l : Level) → Stands r l → r ≡ limit → l .children ≡ none
+  deep-children r l s h = childless (l .children) (s .kids)
+    where
+      childless : (g : Forest) → Valid limit live (suc r) 0 g → g ≡ none
+      childless none w = refl
+      childless (level s′ t b kids next) w = absurd (omega (arith, w .0 .shallow))
 
 -- what is found was handed out
 pub handle-live : (live : ℕ → Bool) (lo s h : ℕ) (b : List Binding) → rising live lo b ≡ true → handleIn s b ≡ gives h → live h ≡ true
@@ -270,76 +251,106 @@ handle-live live lo s h (b ∷ bs) r e =
     go true l i e = let d : b .handle ≡ h = cc in rw d at l
     go false l i e = i e
 
+-- The deepest level answers nothing, so a scope answers what its level does, and what is found is less deep than a name may be.
+abbrev pub Silent : {A : Type 0} → Answer A → Type 0
+Silent (gives a) = ⊥
+Silent (refuses n p) = Unit {0}
+
+silent-alike : {A : Type 0} (n p : ℕ) (a : Answer A) → Silent a → Alike (refuses n p) a
+silent-alike n p (gives a) h = absurd h
+silent-alike n p (refuses k q) h = tt
+
+silent-not : {A : Type 0} (a : Answer A) (v : A) → Silent a → a ≡ gives v → ⊥
+silent-not (gives a) v h e = h
+silent-not (refuses n p) v h e = let z : _≡_ {A = ℕ} 0 1 = cc in omega arith
+
+module _ (m : Limits) (t : Tree) (w : Whole m t) {A : Type 0} (ask : Level → Answer A)
+    (quiet : (l : Level) → Stands (m .components) (isLive t) (m .components) l → Silent (ask l)) (ns : List Component) (room : length ns ≤ m .components) where
+  stands-at : (n : ℕ) (l : Level) → n ≤ length ns → levelAt 0 (t .levels) (take n (keys ns)) ≡ gives l → Stands (m .components) (isLive t) n l
+  stands-at n l h e =
+      subst (λ (k : ℕ). Stands (m .components) (isLive t) k l) (long (length (take n (keys ns))) n (length-take-le n (keys ns) (omega (arith, length-keys ns))))
+      (level-stands (m .components) (isLive t) (t .levels) 0 0 0 (take n (keys ns)) l (w .forest) e)
+    where
+      long : (k n : ℕ) → k ≡ n → 0 + k ≡ n
+      long k n e = omega arith
+
+  too-deep : (n : ℕ) (l : Level) → n ≤ length ns → m .components ≤ n → levelAt 0 (t .levels) (take n (keys ns)) ≡ gives l → Silent (ask l)
+  too-deep n l h d e = quiet l (subst (λ (k : ℕ). Stands (m .components) (isLive t) k l) (same n (length ns) (m .components) h room d) (stands-at n l h e))
+    where
+      same : (n k c : ℕ) → n ≤ k → k ≤ c → c ≤ n → n ≡ c
+      same n k c x y z = omega arith
+
+  -- a scope of n components, asked by its length
+  pub scope-alike : (n u v : ℕ) (a : Answer A) → n ≤ length ns → (n < m .components → Alike a (andThen (levelAt 0 (t .levels) (take n (keys ns))) ask))
+      → Alike (cond (ltb (length (take n ns)) (m .components)) a (refuses u v)) (andThen (levelAt 0 (t .levels) (take n (keys ns))) ask)
+  scope-alike n u v a h f = rw (length-take-le n ns h) (go (ltb n (m .components)) refl)
+    where
+      silent : m .components ≤ n → (x : Answer Level) → levelAt 0 (t .levels) (take n (keys ns)) ≡ x → Silent (andThen x ask)
+      silent d (gives l) e = too-deep n l h d e
+      silent d (refuses k q) e = tt
+
+      go : (x : Bool) → ltb n (m .components) ≡ x → Alike (cond x a (refuses u v)) (andThen (levelAt 0 (t .levels) (take n (keys ns))) ask)
+      go true e = f (ltb-true n (m .components) e)
+      go false e = silent-alike u v (andThen (levelAt 0 (t .levels) (take n (keys ns))) ask) (silent (ltb-false n (m .components) e) (levelAt 0 (t .levels) (take n (keys ns))) refl)
+
+  pub near-deep : (d : Deep A) → nearF ask (t .levels) (keys ns) 0 (refuses 0 0) ≡ gives d
+      → (0 < d .depth) × (d .depth ≤ length ns) × (d .depth < m .components) × ((l : Level) × Stands (m .components) (isLive t) (d .depth) l × (ask l ≡ gives (d .value)))
+  near-deep d e =
+      let h = near-hold ask (t .levels) (keys ns) d e in
+      let n : d .depth ≤ length ns = omega (arith, h .near, length-keys ns) in
+      let at : levelAt 0 (t .levels) (take (d .depth) (keys ns)) ≡ gives (h .level) = ap (λ (k : ℕ). levelAt 0 (t .levels) (take k (keys ns))) (less (d .depth)) ∙ h .at in
+      (h .far, n, shallow (h .level) n at (h .gave) (ltb (d .depth) (m .components)) refl, (h .level, stands-at (d .depth) (h .level) n at, h .gave))
+    where
+      less : (n : ℕ) → n ≡ n - 0
+      less n = omega arith
+
+      shallow : (l : Level) → d .depth ≤ length ns → levelAt 0 (t .levels) (take (d .depth) (keys ns)) ≡ gives l → ask l ≡ gives (d .value) → (x : Bool) → ltb (d .depth) (m .components) ≡ x → d .depth < m .components
+      shallow l n at g true q = ltb-true (d .depth) (m .components) q
+      shallow l n at g false q = absurd (silent-not (ask l) (d .value) (too-deep (d .depth) l n (ltb-false (d .depth) (m .components) q) at) g)
+
+-- the keys of a scope's first n components, and of a name in it
+module _ (c : Component) (ns : List Component) (n : ℕ) (h : n ≤ length ns) where
+  pub with-last : keys (take n ns ++ (c ∷ [])) ≡ take n (keys ns) ++ (key c ∷ [])
+  unfolding keys
+  with-last = keys-append (take n ns) (c ∷ []) ∙ ap (λ (l : List ℕ). l ++ (key c ∷ [])) (keys-take n ns)
+
+  pub front-length : length (take n (keys ns)) ≡ n
+  front-length = length-take-le n (keys ns) (omega (arith, length-keys ns))
+
 -- values: what a scope answers is what its level does
 module _ (m : Limits) (t : Tree) (w : Whole m t) (c : Component) (ns : List Component) (room : length ns ≤ m .components) where
   abbrev pub askValue : Level → Answer ℕ
   askValue l = handleIn (key c) (l .bindings)
 
+  quiet : (l : Level) → Stands (m .components) (isLive t) (m .components) l → Silent (askValue l)
+  unfolding handleIn
+  quiet l s = rw (deep-bindings (m .components) (isLive t) (m .components) l s refl) tt
+
   module _ (n : ℕ) (z : 0 < n) (h : n ≤ length ns) where
-    len : length (take n ns) ≡ n
-    len = length-take-le n ns h
-
-    with-last : keys (take n ns ++ (c ∷ [])) ≡ take n (keys ns) ++ (key c ∷ [])
-    unfolding keys
-    with-last = keys-append (take n ns) (c ∷ []) ∙ ap (λ (l : List ℕ). l ++ (key c ∷ [])) (keys-take n ns)
-
-    front-length : length (take n (keys ns)) ≡ n
-    front-length = length-take-le n (keys ns) (omega (arith, length-keys ns))
-
     one-more : length (take n (keys ns) ++ (key c ∷ [])) ≡ suc n
-    one-more = length-append (take n (keys ns)) (key c ∷ []) ∙ plus (length (take n (keys ns))) n front-length
+    one-more = length-append (take n (keys ns)) (key c ∷ []) ∙ plus (length (take n (keys ns))) n (front-length c ns n h)
       where
         plus : (k n : ℕ) → k ≡ n → k + 1 ≡ suc n
         plus k n e = omega arith
 
     scope-is : scopeOf (take n (keys ns) ++ (key c ∷ [])) ≡ take n (keys ns)
-    scope-is = take-at (take n (keys ns)) (key c ∷ []) (length (take n (keys ns) ++ (key c ∷ [])) - 1) (omega (arith, one-more, front-length))
+    scope-is = take-at (take n (keys ns)) (key c ∷ []) (length (take n (keys ns) ++ (key c ∷ [])) - 1) (omega (arith, one-more, front-length c ns n h))
 
     last-is : lastOf (take n (keys ns) ++ (key c ∷ [])) ≡ key c
-    last-is = getD-at (take n (keys ns)) (key c) [] 0 (length (take n (keys ns) ++ (key c ∷ [])) - 1) (omega (arith, one-more, front-length))
+    last-is = getD-at (take n (keys ns)) (key c) [] 0 (length (take n (keys ns) ++ (key c ∷ [])) - 1) (omega (arith, one-more, front-length c ns n h))
 
     looked : lookUp t (keys (take n ns ++ (c ∷ []))) ≡ andThen (levelAt 0 (t .levels) (take n (keys ns))) askValue
     unfolding lookUp
-    looked = rw (with-last, lt-leb (length (take n (keys ns) ++ (key c ∷ []))) 1 (omega (arith, one-more)), scope-is, last-is)
+    looked = rw (with-last c ns n h, lt-leb (length (take n (keys ns) ++ (key c ∷ []))) 1 (omega (arith, one-more)), scope-is, last-is)
 
-    deepest : m .components ≤ n → (a : Answer Level) → levelAt 0 (t .levels) (take n (keys ns)) ≡ a → Alike (refuses 16 0) (andThen a askValue)
-    unfolding handleIn
-    deepest d (gives l) e =
-        rw (deep-bindings (m .components) (isLive t) (t .levels) 0 0 0 (take n (keys ns)) l (w .forest) e (omega (arith, front-length))) tt
-    deepest d (refuses a b) e = tt
-
-    pub same-value : Alike (valueIn m t c (take n ns)) (andThen (levelAt 0 (t .levels) (take n (keys ns))) askValue)
-    same-value = go (ltb (length (take n ns)) (m .components)) refl
-      where
-        go : (x : Bool) → ltb (length (take n ns)) (m .components) ≡ x → Alike (valueIn m t c (take n ns)) (andThen (levelAt 0 (t .levels) (take n (keys ns))) askValue)
-        go true e = unfold valueIn in rw (e, looked) (alike-refl (andThen (levelAt 0 (t .levels) (take n (keys ns))) askValue))
-        go false e = unfold valueIn in rw e (deepest (omega (arith, ltb-false (length (take n ns)) (m .components) e, len)) (levelAt 0 (t .levels) (take n (keys ns))) refl)
+    same-value : Alike (valueIn m t c (take n ns)) (andThen (levelAt 0 (t .levels) (take n (keys ns))) askValue)
+    unfolding valueIn
+    same-value = scope-alike m t w askValue quiet ns room n 16 0 (lookUp t (keys (take n ns ++ (c ∷ [])))) h (λ d. rw looked (alike-refl (andThen (levelAt 0 (t .levels) (take n (keys ns))) askValue)))
 
   pub value-search : outward (valueIn m t c) (refuses 16 0) ns (length ns) 0 ≡ foundOf ns (length ns) (refuses 16 0) (nearF askValue (t .levels) (keys ns) 0 (refuses 0 0))
   value-search = outward-near (valueIn m t c) askValue (refuses 16 0) (t .levels) ns same-value
 
   pub value-deep : (d : Deep ℕ) → nearF askValue (t .levels) (keys ns) 0 (refuses 0 0) ≡ gives d → (0 < d .depth) × (d .depth ≤ length ns) × (d .depth < m .components) × (isLive t (d .value) ≡ true)
   value-deep d e =
-      let h = near-hold askValue (t .levels) (keys ns) d e in (
-        h .far,
-        omega (arith, h .near, length-keys ns),
-        shallow h,
-        handle-live (isLive t) 0 (key c) (d .value) (h .level .bindings)
-            (level-ordered (m .components) (isLive t) (t .levels) 1 0 0 (take (d .depth - 0) (keys ns)) (h .level) (w .forest) (h .at)) (h .gave),
-      )
-    where
-      shallow : Hold askValue (t .levels) (keys ns) 0 d (length (keys ns)) → d .depth < m .components
-      shallow h = go (ltb (d .depth) (m .components)) refl
-        where
-          none-given : (b : List Binding) → b ≡ [] → handleIn (key c) b ≡ gives (d .value) → ⊥
-          none-given b q g =
-              let x : refuses 16 0 ≡ gives (d .value) = sym (ap (handleIn (key c)) q ∙ (unfold handleIn in refl)) ∙ g in
-              let z : _≡_ {A = ℕ} 0 1 = cc in omega arith
-
-          go : (x : Bool) → ltb (d .depth) (m .components) ≡ x → d .depth < m .components
-          go true q = ltb-true (d .depth) (m .components) q
-          go false q =
-              absurd (none-given (h .level .bindings)
-              (deep-bindings (m .components) (isLive t) (t .levels) 0 0 0 (take (d .depth - 0) (keys ns)) (h .level) (w .forest) (h .at)
-              (omega (arith, ltb-false (d .depth) (m .components) q, length-take-le (d .depth - 0) (keys ns) (omega (arith, h .near)), h .near, length-keys ns, room)))
-              (h .gave))
+      let h = near-deep m t w askValue quiet ns room d e in
+      (h .0, h .1, h .2, handle-live (isLive t) 0 (key c) (d .value) (h .3 .0 .bindings) (h .3 .1 .fits .ordered) (h .3 .2))

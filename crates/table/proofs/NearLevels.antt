@@ -6,10 +6,10 @@ use mathlib.Core.List.{List, [], _∷_, _++_, append-assoc}
 use Prim.Native.Nat.{ℕ, zero, suc, _+_, _-_, _<_, _≤_, _^_}
 use native.Mathlib.Omega.{arith}
 use native.Mathlib.Numerals.{add-one}
-use lib.Dec.{leb, ltb, eqb}
+use lib.Dec.{leb, eqb}
 use lib.ListN.{length, take, drop, getD, replicate, drop-of-length-le, length-drop}
-use lib.Seq.{drop-cons, length-take-le}
-use borrow.Author.Tests.{le-leb, lt-leb, eq-eqb, ne-eqb, eqb-true, lt-ltb, le-ltb, ltb-true, ltb-false, leb-true, leb-false}
+use lib.Seq.{drop-cons}
+use borrow.Author.Tests.{le-leb, lt-leb, eq-eqb, ne-eqb, eqb-true, lt-ltb, le-ltb, leb-true, leb-false}
 use Rattle.pkg_length.specs.Refusal.{Answer, gives, refuses, andThen}
 use Rattle.name_object.specs.Component.{Component}
 use Rattle.table.specs.Limits.{Limits}
@@ -25,7 +25,7 @@ use Rattle.table.proofs.Decode.{Below, below-flat, below-spare}
 use Rattle.table.proofs.Whole.{Whole}
 use Rattle.table.proofs.Objects.{whole}
 use Rattle.table.proofs.Held.{levels-are}
-use Rattle.table.proofs.Near.{length-keys, Deep, closer, nearF, Hold, near-hold, Alike, foundOf, outward-near, keys-append, keys-take, deep-children}
+use Rattle.table.proofs.Near.{Deep, closer, nearF, Alike, foundOf, outward-near, Stands, Silent, deep-children, scope-alike, near-deep, with-last, front-length}
 
 -- a level of the scope answers where it has the child
 abbrev pub askChild : ℕ → Level → Answer (Unit {0})
@@ -352,54 +352,25 @@ child-at (level s′ t b kids next) n s y (z ∷ q) = go (eqb s′ y) (child-at 
     go false i l = l
 
 module _ (m : Limits) (t : Tree) (w : Whole m t) (c : Component) (ns : List Component) (room : length ns ≤ m .components) where
+  quiet : (l : Level) → Stands (m .components) (isLive t) (m .components) l → Silent (askChild (key c) l)
+  unfolding hasLevel
+  quiet l s = rw (deep-children (m .components) (isLive t) (m .components) l s refl) tt
+
   module _ (n : ℕ) (z : 0 < n) (h : n ≤ length ns) where
-    with-last : keys (take n ns ++ (c ∷ [])) ≡ take n (keys ns) ++ (key c ∷ [])
-    unfolding keys
-    with-last = keys-append (take n ns) (c ∷ []) ∙ ap (λ (l : List ℕ). l ++ (key c ∷ [])) (keys-take n ns)
-
-    front-length : length (take n (keys ns)) ≡ n
-    front-length = length-take-le n (keys ns) (omega (arith, length-keys ns))
-
     child : (p : List ℕ) → 0 < length p → Alike (andThen (levelAt 0 (t .levels) (p ++ (key c ∷ []))) (λ l. gives tt)) (andThen (levelAt 0 (t .levels) p) (askChild (key c)))
     child [] k = absurd (omega arith)
     child (y ∷ q) k = child-at (t .levels) 0 (key c) y q
 
-    deepest : m .components ≤ n → (a : Answer Level) → levelAt 0 (t .levels) (take n (keys ns)) ≡ a → Alike (refuses 15 1) (andThen a (askChild (key c)))
-    unfolding hasLevel
-    deepest d (gives l) e =
-        rw (deep-children (m .components) (isLive t) (t .levels) 0 0 0 (take n (keys ns)) l (w .forest) e (omega (arith, front-length))) tt
-    deepest d (refuses a b) e = tt
-
-    pub same-level : Alike (levelIn m t c (take n ns)) (andThen (levelAt 0 (t .levels) (take n (keys ns))) (askChild (key c)))
-    same-level = go (ltb (length (take n ns)) (m .components)) refl
-      where
-        go : (x : Bool) → ltb (length (take n ns)) (m .components) ≡ x → Alike (levelIn m t c (take n ns)) (andThen (levelAt 0 (t .levels) (take n (keys ns))) (askChild (key c)))
-        go true e = unfold levelIn in rw (e, with-last) (child (take n (keys ns)) (omega (arith, front-length)))
-        go false e = unfold levelIn in rw e (deepest (omega (arith, ltb-false (length (take n ns)) (m .components) e, length-take-le n ns h)) (levelAt 0 (t .levels) (take n (keys ns))) refl)
+    same-level : Alike (levelIn m t c (take n ns)) (andThen (levelAt 0 (t .levels) (take n (keys ns))) (askChild (key c)))
+    unfolding levelIn
+    same-level = scope-alike m t w (askChild (key c)) quiet ns room n 15 1 (andThen (levelAt 0 (t .levels) (keys (take n ns ++ (c ∷ [])))) (λ l. gives tt)) h
+        (λ d. rw (with-last c ns n h) (child (take n (keys ns)) (omega (arith, front-length c ns n h))))
 
   pub level-search : outward (levelIn m t c) (refuses 15 1) ns (length ns) 0 ≡ foundOf ns (length ns) (refuses 15 1) (nearF (askChild (key c)) (t .levels) (keys ns) 0 (refuses 0 0))
   level-search = outward-near (levelIn m t c) (askChild (key c)) (refuses 15 1) (t .levels) ns same-level
 
   pub level-deep : (d : Deep (Unit {0})) → nearF (askChild (key c)) (t .levels) (keys ns) 0 (refuses 0 0) ≡ gives d → (0 < d .depth) × (d .depth ≤ length ns) × (d .depth < m .components)
-  level-deep d e =
-      let h = near-hold (askChild (key c)) (t .levels) (keys ns) d e in
-      (h .far, omega (arith, h .near, length-keys ns), shallow h)
-    where
-      shallow : Hold (askChild (key c)) (t .levels) (keys ns) 0 d (length (keys ns)) → d .depth < m .components
-      shallow h = go (ltb (d .depth) (m .components)) refl
-        where
-          none-given : (g : Forest) → g ≡ none → cond (hasLevel (key c) g) (gives tt) (refuses 15 1) ≡ gives (d .value) → ⊥
-          none-given g q e =
-              let x : refuses 15 1 ≡ gives (d .value) = sym (ap (λ (f : Forest). cond (hasLevel (key c) f) (gives tt) (refuses 15 1)) q ∙ (unfold hasLevel in refl)) ∙ e in
-              let z : _≡_ {A = ℕ} 0 1 = cc in omega arith
-
-          go : (x : Bool) → ltb (d .depth) (m .components) ≡ x → d .depth < m .components
-          go true q = ltb-true (d .depth) (m .components) q
-          go false q =
-              absurd (none-given (h .level .children)
-              (deep-children (m .components) (isLive t) (t .levels) 0 0 0 (take (d .depth - 0) (keys ns)) (h .level) (w .forest) (h .at)
-              (omega (arith, ltb-false (d .depth) (m .components) q, length-take-le (d .depth - 0) (keys ns) (omega (arith, h .near)), h .near, length-keys ns, room)))
-              (h .gave))
+  level-deep d e = let h = near-deep m t w (askChild (key c)) quiet ns room d e in (h .0, h .1, h .2)
 
 -- what a turn of the loop does
 pub reopen-low : (depth rank : ℕ) → 0 < rank → reopened depth rank ≤ depth

@@ -1,12 +1,12 @@
 -- The numbering of segments: every segment has one number, every number from 10 * 37^3 on below 37^4 is a segment's, the four characters come
 -- back from the number, and the order of numbers is the order of bytes. Character by character there are three kinds, and the rest is base 37.
 use mathlib.Core.Path.{_≡_, refl, ap, sym, _∙_}
-use mathlib.Core.Bool.{Bool, true, false, cond, _&&_}
+use mathlib.Core.Bool.{Bool, true, false, cond}
 use mathlib.Core.Logic.{⊎-elim}
-use Prim.Native.Nat.{ℕ, suc, _+_, _-_, _*_, _/_, _%_, _^_, _<_, _≤_}
+use Prim.Native.Nat.{ℕ, _+_, _*_, _/_, _%_, _^_, _<_, _≤_}
 use native.Mathlib.Omega.{arith}
 use lib.Dec.{leb, ltb, eqb}
-use borrow.Author.Tests.{eqb-true, eqb-false, leb-true, leb-false, ltb-true, ltb-false, le-leb, lt-leb, lt-ltb, le-ltb, eq-eqb, ne-eqb}
+use borrow.Author.Tests.{eqb-true, leb-true, ltb-true, le-leb, lt-leb, lt-ltb, le-ltb, eq-eqb, ne-eqb}
 use Rattle.name_object.specs.Component.{Component, seg, leadOk, digitOk, charOk, segOk}
 use Rattle.name_object.proofs.Paths.{both}
 use Rattle.table.specs.Tree.{charNumber, number}
@@ -28,24 +28,24 @@ pub data Char (c n : ℕ) : Type 0 where
 
 lead-is : (c : ℕ) → leadOk c ≡ true → Char c (charNumber c) × (10 ≤ charNumber c)
 unfolding leadOk charNumber
-lead-is c h = go (eqb c 0x5F) refl h
+lead-is c h = go (eqb c 0x5F) refl
   where
-    go : (t : Bool) → eqb c 0x5F ≡ t → cond t true (cond (leb 0x41 c) (leb c 0x5A) false) ≡ true → Char c (charNumber c) × (10 ≤ charNumber c)
-    go true e k = rw (eqb-true c 0x5F e) (line refl refl, omega arith)
-    go false e k =
-        let g = both (leb 0x41 c) (leb c 0x5A) k in
+    go : (t : Bool) → eqb c 0x5F ≡ t → Char c (charNumber c) × (10 ≤ charNumber c)
+    go true e = rw (eqb-true c 0x5F e) (line refl refl, omega arith)
+    go false e =
+        let g = both (leb 0x41 c) (leb c 0x5A) (rw e at h) in
         let l = leb-true 0x41 c (g .0) in
         let u = leb-true c 0x5A (g .1) in
         rw (le-ltb c 0x3A (omega arith), lt-ltb c 0x5B (omega arith)) (letter (omega arith) (omega arith) (omega arith), omega arith)
 
 char-is : (c : ℕ) → charOk c ≡ true → Char c (charNumber c)
 unfolding charOk digitOk charNumber
-char-is c h = go (leadOk c) refl h
+char-is c h = go (leadOk c) refl
   where
-    go : (t : Bool) → leadOk c ≡ t → cond t true (cond (leb 0x30 c) (leb c 0x39) false) ≡ true → Char c (charNumber c)
-    go true e k = lead-is c e .0
-    go false e k =
-        let g = both (leb 0x30 c) (leb c 0x39) k in
+    go : (t : Bool) → leadOk c ≡ t → Char c (charNumber c)
+    go true e = lead-is c e .0
+    go false e =
+        let g = both (leb 0x30 c) (leb c 0x39) (rw e at h) in
         let l = leb-true 0x30 c (g .0) in
         let u = leb-true c 0x39 (g .1) in
         rw (lt-ltb c 0x3A (omega arith)) (digit (omega arith) (omega arith))

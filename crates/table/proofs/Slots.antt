@@ -1,13 +1,13 @@
 -- A segment among a level's bindings: the pass finds what the definitions say, and where a new binding goes.
-use mathlib.Core.Path.{_≡_, refl, ap, sym, _∙_}
+use mathlib.Core.Path.{_≡_, refl, ap, sym}
 use mathlib.Core.Bool.{Bool, true, false, cond, _||_}
 use mathlib.Core.List.{List, [], _∷_, _++_, map}
 use Prim.Native.Nat.{ℕ, suc, _+_, _/_, _%_, _<_, _≤_, _^_}
 use native.Mathlib.Omega.{arith}
 use native.Mathlib.Numerals.{add-one}
-use lib.Dec.{leb, ltb, eqb}
+use lib.Dec.{ltb, eqb}
 use lib.ListN.{length, take, drop, getD}
-use lib.Seq.{slice, slice-cons, slice-empty, take-add, drop-at, length-take-le}
+use lib.Seq.{slice, slice-cons, slice-empty}
 use borrow.Author.Tests.{ltb-true, ltb-false, eqb-false, lt-ltb, le-ltb, eq-eqb, ne-eqb}
 use Rattle.pkg_length.specs.Refusal.{gives, refuses}
 use Rattle.table.proofs.Shape.{BindingTests, binding-tests, tests-binding}
@@ -17,6 +17,7 @@ use Rattle.table.specs.Valid.{segmentOk, rising}
 use Rattle.table.specs.Edits.{handleIn, isBound, insertBinding}
 use Rattle.table.specs.Inside.{slotIn}
 use Rattle.table.specs.declared.inner.Slot.{Slot}
+use Rattle.table.proofs.Facts.{take-slice}
 
 -- more handles
 pub rising-more : (live more : ℕ → Bool) (lo : ℕ) (bs : List Binding) → ((h : ℕ) → live h ≡ true → more h ≡ true) → rising live lo bs ≡ true → rising more lo bs ≡ true
@@ -133,9 +134,6 @@ module _ (s : ℕ) where
           }
 
 -- what a turn of the loop does
-take-slice : (f n : ℕ) (l : List ℕ) → f ≤ length l → take n (drop f l) ≡ slice f (f + n) l
-take-slice f n l h = sym (ap (drop f) (take-add f n l) ∙ drop-at (take f l) (take n (drop f l)) f (length-take-le f l h))
-
 pub slot-start : (s f n : ℕ) (l : List ℕ) → f ≤ length l → slotIn s (map bindingOf (slice f (f + n) l)) f ≡ slotIn s (map bindingOf (take n (drop f l))) f
 slot-start s f n l h = ap (λ (x : List ℕ). slotIn s (map bindingOf x) f) (sym (take-slice f n l h))
 

@@ -1,6 +1,6 @@
 -- What a turn of each loop of the test of memory does, over the list that is left.
 use mathlib.Core.Path.{_≡_, refl, ap, sym, _∙_}
-use mathlib.Core.Bool.{Bool, true, false, cond, _&&_, and-false, and-true}
+use mathlib.Core.Bool.{Bool, true, false, _&&_, and-false, and-true}
 use mathlib.Core.List.{List, [], _∷_, _++_, map}
 use Prim.Native.Nat.{ℕ, suc, _+_, _-_, _*_, _/_, _%_, _^_, _<_, _≤_}
 use native.Mathlib.Omega.{arith}
@@ -8,10 +8,10 @@ use native.Mathlib.Numerals.{add-one}
 use lib.Bits.{bitOr, or-add-and, and-le-l, and-le-r}
 use lib.Dec.{leb, ltb, eqb}
 use lib.ListN.{length, take, drop, getD, set, replicate, length-drop, drop-of-length-le}
-use lib.Seq.{drop-cons, slice, slice-cons, slice-empty, take-add, drop-at, length-take-le, drop-drop, take-suc-set, take-all}
+use lib.Seq.{drop-cons, slice, slice-cons, slice-empty, drop-drop, take-suc-set, take-all}
 use borrow.Author.Tests.{le-leb, lt-leb, lt-ltb, le-ltb, eq-eqb, ne-eqb, leb-true, ltb-true, ltb-false, eqb-true, eqb-false}
 use Rattle.name_object.specs.Memory.{allZero}
-use Rattle.table.proofs.Facts.{both}
+use Rattle.table.proofs.Facts.{both, take-slice}
 use Rattle.table.specs.Limits.{Limits}
 use Rattle.table.specs.Tree.{Binding}
 use Rattle.table.specs.Layout.{rankOf, typeOf, countOf, segOf, bindingOf}
@@ -34,9 +34,6 @@ clear-done i n xs l h k e = sym (take-all i xs h) ∙ e ∙ ap (λ (m : ℕ). re
     same i m n a b c = omega arith
 
 -- bindings
-take-slice : (f n : ℕ) (l : List ℕ) → f ≤ length l → take n (drop f l) ≡ slice f (f + n) l
-take-slice f n l h = sym (ap (drop f) (take-add f n l) ∙ drop-at (take f l) (take n (drop f l)) f (length-take-le f l h))
-
 -- The last binding's word passed, all bits of its handle set, stands for the least segment that may come; and since they rise, the segments passed
 -- are tested from above by the last of them alone.
 unfoldable pub restOk : (ℕ → Bool) → ℕ → List ℕ → Bool
@@ -113,12 +110,13 @@ or-zero a b = go (eqb a 0) (eqb b 0) refl refl
 
 pub spare-turn : (xs : List ℕ) (i seen : ℕ) → i < length xs → (eqb (bitOr seen (getD xs i 0)) 0 && allZero (drop (i + 1) xs)) ≡ (eqb seen 0 && allZero (drop i xs))
 unfolding allZero
-spare-turn xs i seen h = rw (add-one i, drop-cons xs i 0 h, or-zero seen (getD xs i 0)) (go (eqb seen 0) (eqb (getD xs i 0) 0) (allZero (drop (suc i) xs)))
+spare-turn xs i seen h =
+    rw (add-one i, drop-cons xs i 0 h, or-zero seen (getD xs i 0)) (go (eqb seen 0) (eqb (getD xs i 0) 0) refl)
   where
-    go : (x y z : Bool) → ((x && y) && z) ≡ (x && cond y z false)
-    go true true z = refl
-    go true false z = refl
-    go false y z = refl
+    go : (x y : Bool) → eqb (getD xs i 0) 0 ≡ y → ((x && eqb (getD xs i 0) 0) && allZero (drop (suc i) xs)) ≡ (x && allZero (getD xs i 0 ∷ drop (suc i) xs))
+    go true true q = rw q
+    go true false q = rw q
+    go false y q = refl
 
 pub spare-end : (xs : List ℕ) (i seen : ℕ) → length xs ≤ i → (eqb seen 0 && allZero (drop i xs)) ≡ eqb seen 0
 unfolding allZero
@@ -181,20 +179,20 @@ module _ (limit : ℕ) (live : ℕ → Bool) (p : ℕ) (low : List ℕ) (w : ℕ
           go false y a b = rw (lt-leb (rankOf w) limit (omega (arith, eqb-false (rankOf w) limit a)))
 
 -- a record that passes
-module _ (limit : ℕ) (live : ℕ → Bool) (p : ℕ) (low : List ℕ) (w f : ℕ) (l : List ℕ) (h : recordOk limit live p low w (drop f l) ≡ true) where
-  pub passed-room : countOf w ≤ length l - f
-  unfolding recordOk bindsOk
-  passed-room =
-      let b = both (leb (rankOf w) (p + 1) && wordOk limit (getD low (rankOf w) 0) w) (bindsOk live (countOf w) (drop f l)) h in
-      let c = both (leb (countOf w) (length (drop f l))) _ (b .1) in
-      omega (arith, leb-true (countOf w) (length (drop f l)) (c .0), length-drop f l)
+pub record Passed (limit w f : ℕ) (l : List ℕ) : Type 0 where
+  pub rank : rankOf w ≤ limit
+  pub room : countOf w ≤ length l - f
 
-  pub passed-rank : rankOf w ≤ limit
-  unfolding recordOk
-  passed-rank =
-      let b = both _ (bindsOk live (countOf w) (drop f l)) h in
-      let a = both (leb (rankOf w) (p + 1)) (wordOk limit (getD low (rankOf w) 0) w) (b .0) in
-      level-tests limit (rankOf w) (getD low (rankOf w) 0) (segOf w) (typeOf w) (countOf w) (a .1) .shallow
+pub passed : (limit : ℕ) (live : ℕ → Bool) (p : ℕ) (low : List ℕ) (w f : ℕ) (l : List ℕ) → recordOk limit live p low w (drop f l) ≡ true → Passed limit w f l
+unfolding recordOk bindsOk
+passed limit live p low w f l h =
+    let b = both (leb (rankOf w) (p + 1) && wordOk limit (getD low (rankOf w) 0) w) (bindsOk live (countOf w) (drop f l)) h in
+    let a = both (leb (rankOf w) (p + 1)) (wordOk limit (getD low (rankOf w) 0) w) (b .0) in
+    let c = both (leb (countOf w) (length (drop f l))) _ (b .1) in
+    record {
+      rank = level-tests limit (rankOf w) (getD low (rankOf w) 0) (segOf w) (typeOf w) (countOf w) (a .1) .shallow;
+      room = omega (arith, leb-true (countOf w) (length (drop f l)) (c .0), length-drop f l);
+    }
 
 -- the pass over the records
 module _ (limit : ℕ) (live : ℕ → Bool) (p : ℕ) (low ws : List ℕ) (k : ℕ) (bs : List ℕ) (m : ℕ) (h : k < length ws) where

@@ -67,7 +67,7 @@ fn name_fits(rank: u64, seg: u64, typ: u64) -> bool
 
 // The n bindings from index from on are there, rise, and have handles below made. A word is above the one before it with all bits of the handle set,
 // so its segment is greater; and as they rise, the last segment alone is tested from above.
-fn binds_fit(bindings: &[u64], from: usize, n: usize, made: u64) -> bool
+fn binds_fit(bindings: &[u64], from: usize, n: usize, made: u32) -> bool
     requires { ⌜ from ≤ length (now bindings) ⌝ }
     ensures { λ r. ⌜ r ≡ bindsOk (below made) n (drop from (now (bindings .entry))) ⌝ }
 {
@@ -82,7 +82,7 @@ fn binds_fit(bindings: &[u64], from: usize, n: usize, made: u64) -> bool
         if w <= last {
             return false;
         }
-        if made <= w % SEGMENT {
+        if made <= (w % SEGMENT) as u32 {
             return false;
         }
         last = w / SEGMENT * SEGMENT + (SEGMENT - 1);
@@ -93,7 +93,6 @@ fn binds_fit(bindings: &[u64], from: usize, n: usize, made: u64) -> bool
 
 // Every word from an index on is zero. All are looked at, so that many are taken at a time.
 fn rest_zero(xs: &[u64], from: usize) -> bool
-    requires { ⌜ from ≤ length (now xs) ⌝ }
     ensures { λ r. ⌜ r ≡ allZero (drop from (now (xs .entry))) ⌝ }
 {
     let mut seen: u64 = 0;
@@ -116,7 +115,7 @@ fn deepest_fits(rank: u64, n: u64) -> bool
 }
 
 // A record after one of rank p, with its bindings from index from on; low has the least segment that may come at each rank.
-fn record_fits(w: u64, p: u64, low: &[u64; RANKS], bindings: &[u64], from: usize, made: u64) -> bool
+fn record_fits(w: u64, p: u64, low: &[u64; RANKS], bindings: &[u64], from: usize, made: u32) -> bool
     requires { ⌜ (p ≤ componentLimit) × (from ≤ length (now bindings)) ⌝ }
     ensures { λ r. ⌜ r ≡ recordOk componentLimit (below made) p (now (low .entry)) w (drop from (now (bindings .entry))) ⌝ }
 {
@@ -142,7 +141,7 @@ fn record_fits(w: u64, p: u64, low: &[u64; RANKS], bindings: &[u64], from: usize
 }
 
 // The records and their bindings, in one pass.
-fn scan_levels(levels: &[u64], bindings: &[u64], made: u64) -> bool
+fn scan_levels(levels: &[u64], bindings: &[u64], made: u32) -> bool
     ensures { λ r. ⌜ r ≡ scan componentLimit (below made) 0 (lowest componentLimit) (now (levels .entry)) (now (bindings .entry)) ⌝ }
 {
     let mut low = [0u64; RANKS];
@@ -183,7 +182,7 @@ pub fn parts_fit(levels: &[u64], bindings: &[u64], objects: &[u64]) -> bool
         if levels[0] == 0 {
             false
         } else {
-            scan_levels(levels, bindings, made)
+            scan_levels(levels, bindings, made as u32)
         }
     } else {
         false

@@ -66,5 +66,5 @@ returns-4 c =
 
 pub binds-fit-spec : {M : Type 1} → statement M
 binds-fit-spec =
-    tie.close (tie.spec Inv-loop μ-loop (λ c. search needs) returns (λ c. search needs) loop-holds (λ c. search needs) (λ c. search needs) returns-2 returns-3
+    tie.close (tie.spec Inv-loop μ-loop (λ c. search needs) returns (λ c. search needs) loop-holds (λ c. search needs) (λ c. search needs) returns-2 (λ c. search needs) returns-3
     word-fits (λ c. search needs) word-fits′ (λ c. search needs) (λ c. search needs) loop-again returns-4)

@@ -33,5 +33,5 @@ returns-4 c =
 
 pub parts-fit-spec : {M : Type 1} → statement M
 parts-fit-spec =
-    tie.close (tie.spec (λ c. search needs) returns (λ c. search needs) (λ c κs. search needs) (λ c. search needs) (λ c κs. search needs) returns-2 returns-3
+    tie.close (tie.spec (λ c. search needs) returns (λ c. search needs) (λ c κs. search needs) (λ c. search needs) (λ c. search needs) (λ c κs. search needs) returns-2 returns-3
     returns-4)

@@ -4,11 +4,15 @@ use Prim.Native.Nat.{_-_, _≤_}
 use lib.ListN.{length, drop, getD, length-set}
 use Rattle.name_object.specs.Component.{componentLimit}
 use Rattle.table.specs.Inside.{scan, lowest, below}
-use Rattle.table.proofs.Turns.{turn-zero, turn-unfit, turn-pass, turn-end, passed-rank, passed-room}
+use Rattle.table.proofs.Turns.{Passed, passed, turn-zero, turn-unfit, turn-pass, turn-end}
 use borrow.Author.Needs.{needs}
 use native.Mathlib.Omega.{arith}
 use Rattle.table.proofs.inner.scan_levels.Statement.{statement}
 use Rattle.table.proofs.inner.scan_levels.Tie as tie
+use Rattle.table.proofs.inner.scan_levels.Reads as reads
+use Rattle.table.proofs.inner.scan_levels.Lts as lts
+use Rattle.table.proofs.inner.rest_zero.Reads as rest-zero-reads
+use Rattle.table.proofs.inner.record_fits.Reads as record-fits-reads
 
 abbrev Inv-loop : tie.InvT-loop
 Inv-loop levels bindings made low₀ p₀ m₀ k₀ low p m k =
@@ -33,59 +37,14 @@ returns-2 c =
     let a = c .before .before .before .before .before .before .before .before .args in
     sym (turn-zero componentLimit (below (a .made)) (l .p) (l .low) (a .levels .now) (l .k) (a .bindings .now) (l .m) (omega arith) (c .before .before .if1 .taken) ∙ rw (sym (c .before .rest-zero .ensures) ∙ c .if2 .left)) ∙ l .inv .4
 
-mul-low : tie.Need-mul-low Inv-loop μ-loop
-mul-low c =
-    let c6 = c .before .before .before .before .before .before in
-    let c9 = c6 .before .before .before in
-    let l = c6 .loop in
-    let a = c9 .args in
-    let h1 = sym (c .before .record-fits .ensures) ∙ c .if3 .taken in
-    omega (arith, passed-rank componentLimit (below (a .made)) (l .p) (l .low) (getD (a .levels .now) (l .k) 0) (l .m) (a .bindings .now) h1, passed-room componentLimit (below (a .made)) (l .p) (l .low) (getD (a .levels .now) (l .k) 0) (l .m) (a .bindings .now) h1)
-
-array-write-low : tie.Need-array-write-low Inv-loop μ-loop
-array-write-low c =
-    let c6 = c .before .before .before .before .before .before in
-    let c9 = c6 .before .before .before in
-    let l = c6 .loop in
-    let a = c9 .args in
-    let h1 = sym (c .before .record-fits .ensures) ∙ c .if3 .taken in
-    omega (arith, passed-rank componentLimit (below (a .made)) (l .p) (l .low) (getD (a .levels .now) (l .k) 0) (l .m) (a .bindings .now) h1, passed-room componentLimit (below (a .made)) (l .p) (l .low) (getD (a .levels .now) (l .k) 0) (l .m) (a .bindings .now) h1)
-
-add-low-2 : tie.Need-add-low-2 Inv-loop μ-loop
-add-low-2 c =
-    let c6 = c .before .before .before .before .before .before in
-    let c9 = c6 .before .before .before in
-    let l = c6 .loop in
-    let a = c9 .args in
-    let h1 = sym (c .before .record-fits .ensures) ∙ c .if3 .taken in
-    omega (arith, passed-rank componentLimit (below (a .made)) (l .p) (l .low) (getD (a .levels .now) (l .k) 0) (l .m) (a .bindings .now) h1, passed-room componentLimit (below (a .made)) (l .p) (l .low) (getD (a .levels .now) (l .k) 0) (l .m) (a .bindings .now) h1)
-
-mul-low-2 : tie.Need-mul-low-2 Inv-loop μ-loop
-mul-low-2 c =
-    let c6 = c .before .before .before .before .before .before in
-    let c9 = c6 .before .before .before in
-    let l = c6 .loop in
-    let a = c9 .args in
-    let h1 = sym (c .before .record-fits .ensures) ∙ c .if3 .taken in
-    omega (arith, passed-rank componentLimit (below (a .made)) (l .p) (l .low) (getD (a .levels .now) (l .k) 0) (l .m) (a .bindings .now) h1, passed-room componentLimit (below (a .made)) (l .p) (l .low) (getD (a .levels .now) (l .k) 0) (l .m) (a .bindings .now) h1)
-
-array-write-low-2 : tie.Need-array-write-low-2 Inv-loop μ-loop
-array-write-low-2 c =
-    let c6 = c .before .before .before .before .before .before in
-    let c9 = c6 .before .before .before in
-    let l = c6 .loop in
-    let a = c9 .args in
-    let h1 = sym (c .before .record-fits .ensures) ∙ c .if3 .taken in
-    omega (arith, passed-rank componentLimit (below (a .made)) (l .p) (l .low) (getD (a .levels .now) (l .k) 0) (l .m) (a .bindings .now) h1, passed-room componentLimit (below (a .made)) (l .p) (l .low) (getD (a .levels .now) (l .k) 0) (l .m) (a .bindings .now) h1)
-
-add-m : tie.Need-add-m Inv-loop μ-loop
-add-m c =
-    let c6 = c .before .before .before .before .before .before in
-    let c9 = c6 .before .before .before in
-    let l = c6 .loop in
-    let a = c9 .args in
-    let h1 = sym (c .before .record-fits .ensures) ∙ c .if3 .taken in
-    omega (arith, passed-rank componentLimit (below (a .made)) (l .p) (l .low) (getD (a .levels .now) (l .k) 0) (l .m) (a .bindings .now) h1, passed-room componentLimit (below (a .made)) (l .p) (l .low) (getD (a .levels .now) (l .k) 0) (l .m) (a .bindings .now) h1)
+-- what holds of a record that passed: its rank and its bindings have room
+pass : (c : lts.Then3 (rest-zero-reads.Asked, rest-zero-reads.Learnt, record-fits-reads.Asked, record-fits-reads.Learnt) reads.Pre reads.Post Inv-loop μ-loop)
+    → Passed componentLimit (getD (c .before .before .before .before .before .before .before .before .before .args .levels .now) (c .before .before .before .before .before .before .loop .k) 0)
+    (c .before .before .before .before .before .before .loop .m) (c .before .before .before .before .before .before .before .before .before .args .bindings .now)
+pass c =
+    let l = c .before .before .before .before .before .before .loop in
+    let a = c .before .before .before .before .before .before .before .before .before .args in
+    passed componentLimit (below (a .made)) (l .p) (l .low) (getD (a .levels .now) (l .k) 0) (l .m) (a .bindings .now) (sym (c .before .record-fits .ensures) ∙ c .if3 .taken)
 
 returns-3 : tie.Need-returns-3 Inv-loop μ-loop
 returns-3 c =
@@ -98,9 +57,9 @@ loop-again c =
     let l = c .before .before .before .before .before .before .loop in
     let a = c .before .before .before .before .before .before .before .before .before .args in (
       simp length-set (l .inv .0),
-      passed-rank componentLimit (below (a .made)) (l .p) (l .low) (getD (a .levels .now) (l .k) 0) (l .m) (a .bindings .now) (sym (c .before .record-fits .ensures) ∙ c .if3 .taken),
+      pass c .rank,
       omega arith,
-      omega (arith, passed-room componentLimit (below (a .made)) (l .p) (l .low) (getD (a .levels .now) (l .k) 0) (l .m) (a .bindings .now) (sym (c .before .record-fits .ensures) ∙ c .if3 .taken)),
+      omega (arith, pass c),
       sym (turn-pass componentLimit (below (a .made)) (l .p) (l .low) (a .levels .now) (l .k) (a .bindings .now) (l .m) (omega arith) (c .before .before .before .if1 .left) (sym (c .before .record-fits .ensures) ∙ c .if3 .taken)) ∙ l .inv .4,
     )
 
@@ -113,5 +72,6 @@ returns-4 c =
 pub scan-levels-spec : {M : Type 1} → statement M
 scan-levels-spec =
     tie.close (tie.spec Inv-loop μ-loop loop-holds (λ c. search needs) (λ c. search needs) (λ c. search needs) (λ c κs. search needs) (λ c κs. search needs)
-    returns returns-2 (λ c κs. search needs) (λ c. search needs) mul-low array-write-low add-low-2 mul-low-2 array-write-low-2 add-m returns-3
-    (λ c. search needs) (λ c. search needs) loop-again (λ c κs. search needs) returns-4)
+    returns returns-2 (λ c κs. search needs) (λ c. search needs) (λ c. omega (arith, pass c)) (λ c. omega (arith, pass c)) (λ c. omega (arith, pass c))
+    (λ c. omega (arith, pass c)) (λ c. omega (arith, pass c)) (λ c. omega (arith, pass c)) returns-3 (λ c. search needs) (λ c. search needs) loop-again
+    (λ c κs. search needs) returns-4)
