@@ -13,12 +13,12 @@ use borrow.Author.Tests.{eqb-true, eqb-false, ne-eqb, leb-true}
 use Rattle.pkg_length.specs.Refusal.{Answer, gives, refuses, andThen}
 use Rattle.pkg_length.proofs.Answers.{refuses-not, gives-same, then-gives}
 use Rattle.name_object.specs.Component.{Component, root, up, seg, leadOk, charOk, segOk, fine}
-use Rattle.name_object.specs.Memory.{Named, nameOf, pathIn}
+use Rattle.name_object.specs.Memory.{Named, nameOf, pathIn, pathOk, told}
 use Rattle.name_object.specs.Name.{byteAt, segment, segments, runAt, namePath, carets, prefixOf, spelled, judged, nameString}
 use Rattle.name_object.specs.Grammar.{Segment, four, Segments, none, more, NamePath, null, dual, multi, one, Prefixed, plain, above, NameString, rooted, prefixed}
 use Rattle.name_object.specs.declared.Run.{Run}
 use Rattle.name_object.proofs.Reading.{byte-here, byte-was, seg-was, seg-there}
-use Rattle.name_object.proofs.Paths.{path-back, fine-later}
+use Rattle.name_object.proofs.Paths.{path-back, fine-later, told-is-path}
 use Rattle.name_object.proofs.Answers.{run, judged-whole}
 
 -- ## Bytes that stand at an offset
@@ -410,5 +410,12 @@ unfolding fine
 string-fine (rooted k) = path-fine k
 string-fine (prefixed {cs = cs} k) = fine-later cs (prefixed-fine k)
 
+name-fine : (limit : ℕ) (xs : List ℕ) (v : Named ℕ) → nameString limit xs ≡ gives v → (fine true (v .path) ≡ true) × (length (v .path) ≤ limit)
+name-fine limit xs v h = let s = name-exactly limit xs v .0 h in (string-fine (s .spelling), s .fits)
+
 pub name-is-path : (limit : ℕ) (xs : List ℕ) (v : Named ℕ) → nameString limit xs ≡ gives v → pathIn limit (nameOf limit (v .path)) ≡ gives (v .path)
-name-is-path limit xs v h = let s = name-exactly limit xs v .0 h in path-back limit (v .path) (string-fine (s .spelling)) (s .fits)
+name-is-path limit xs v h = let f = name-fine limit xs v h in path-back limit (v .path) (f .0) (f .1)
+
+-- whatever the bytes, what name_string hands back passes the test of a path
+pub string-is-path : (limit : ℕ) (xs : List ℕ) → pathOk limit (told limit (nameString limit xs) .memory) ≡ true
+string-is-path limit xs = told-is-path limit (nameString limit xs) (name-fine limit xs)

@@ -230,10 +230,6 @@ after-none : (r : Answer (List Component)) → after [] r ≡ r
 after-none (gives cs) = refl
 after-none (refuses n p) = refl
 
-after-root : (r : Answer (List Component)) → after (root ∷ []) r ≡ consed root r
-after-root (gives cs) = refl
-after-root (refuses n p) = refl
-
 pub text-none : (limit : ℕ) (text : List ℕ) → length text ≡ 0 → refuses 7 0 ≡ fromText limit text
 unfolding fromText textPath
 text-none limit [] e = refl
@@ -245,16 +241,22 @@ text-root limit [] n e = absurd (omega arith)
 text-root limit (b ∷ []) n e = rw (eq-eqb b 0x5C e)
 text-root limit (b ∷ c ∷ s) n e = absurd (omega arith)
 
-pub text-rooted : (text : List ℕ) → 1 < length text → getD text 0 0 ≡ 0x5C → after (root ∷ []) (reading before 1 (drop 1 text)) ≡ textPath text
+pub text-rooted : (s : List ℕ) → 0 < length s → textPath (0x5C ∷ s) ≡ consed root (reading before 1 s)
 unfolding textPath afterRoot
-text-rooted [] n e = absurd (omega arith)
-text-rooted (b ∷ []) n e = absurd (omega arith)
-text-rooted (b ∷ c ∷ s) n e = rw (eq-eqb b 0x5C e) (after-root (reading before 1 (c ∷ s)))
+text-rooted [] n = absurd (omega arith)
+text-rooted (b ∷ s) n = refl
 
-pub text-plain : (text : List ℕ) → 0 < length text → (getD text 0 0 ≡ 0x5C → ⊥) → after [] (reading before 0 (drop 0 text)) ≡ textPath text
+pub text-plain : (text : List ℕ) → 0 < length text → (getD text 0 0 ≡ 0x5C → ⊥) → textPath text ≡ reading before 0 text
 unfolding textPath
 text-plain [] n e = absurd (omega arith)
-text-plain (b ∷ s) n e = rw (ne-eqb b 0x5C e) (after-none (reading before 0 (b ∷ s)))
+text-plain (b ∷ s) n e = rw (ne-eqb b 0x5C e)
+
+pub parts-rooted : (text : List ℕ) → 1 < length text → getD text 0 0 ≡ 0x5C → after (root ∷ []) (reading before 1 (drop 1 text)) ≡ textPath text
+parts-rooted [] n e = absurd (omega arith)
+parts-rooted (b ∷ s) n e = rw e (sym (text-rooted s (omega arith)))
+
+pub parts-plain : (text : List ℕ) → 0 < length text → (getD text 0 0 ≡ 0x5C → ⊥) → after [] (reading before 0 (drop 0 text)) ≡ textPath text
+parts-plain text n e = after-none (reading before 0 text) ∙ sym (text-plain text n e)
 
 text-as : (limit : ℕ) (text : List ℕ) (w : Answer (List Component)) → w ≡ textPath text → andThen w (limited limit) ≡ fromText limit text
 unfolding fromText

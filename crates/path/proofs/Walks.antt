@@ -63,6 +63,13 @@ fine-head b root cs h = rw (both b (fine false cs) h .0)
 fine-head b up cs h = refl
 fine-head b (seg p q r s) cs h = rw (both (segOk p q r s) (fine false cs) h .0)
 
+pub fine-front : (b : Bool) (cs ds : List Component) → fine b (cs ++ ds) ≡ true → fine b cs ≡ true
+unfolding fine
+fine-front b [] ds h = refl
+fine-front b (root ∷ cs) ds h = let g = both b (fine false (cs ++ ds)) h in rw (g .0) (fine-front false cs ds (g .1))
+fine-front b (up ∷ cs) ds h = fine-front false cs ds h
+fine-front b (seg p q r s ∷ cs) ds h = let g = both (segOk p q r s) (fine false (cs ++ ds)) h in rw (g .0) (fine-front false cs ds (g .1))
+
 fine-relative : (cs : List Component) → absolute cs ≡ false → fine true cs ≡ true → fine false cs ≡ true
 unfolding fine
 fine-relative [] n h = refl

@@ -138,9 +138,9 @@ text-short x (y ∷ cs) =
     omega (arith, ap length (text-cons x (y ∷ cs)), length-append (pieceOf (ltb 0 (length (y ∷ cs))) x) (textOf (y ∷ cs)), piece-five (ltb 0 (length (y ∷ cs))) x, text-short y cs)
 
 -- at most 159 bytes for 32 components
-pub text-bound : (limit : ℕ) (cs : List Component) → 0 < limit → length cs ≤ limit → length (textOf cs) < 5 * limit
-text-bound limit [] h l = omega (arith, ap length text-nil)
-text-bound limit (x ∷ cs) h l = omega (arith, text-short x cs)
+pub text-bound : (limit : ℕ) (cs : List Component) → length cs ≤ limit → length (textOf cs) ≤ 5 * limit - 1
+text-bound limit [] l = omega (arith, ap length text-nil)
+text-bound limit (x ∷ cs) l = omega (arith, text-short x cs)
 
 more-is : (i n m : ℕ) → m ≡ n - suc i → i < n → ltb 0 m ≡ ltb (i + 1) n
 more-is i n m e h = go (ltb (i + 1) n) refl

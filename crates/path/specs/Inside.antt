@@ -5,7 +5,7 @@ use mathlib.Core.Bool.{Bool, true, false, cond}
 use mathlib.Core.List.{List, [], _∷_, _++_}
 use lib.Dec.{ltb, eqb}
 use lib.ListN.{length, take, set}
-use Rattle.pkg_length.specs.Refusal.{Answer, gives, refuses}
+use Rattle.pkg_length.specs.Refusal.{Answer, gives, refuses, andThen}
 use Rattle.name_object.specs.Component.{Component, root, up, seg, segOk, fine, spellOne, componentLimit}
 use Rattle.name_object.specs.Memory.{nameOf, put4, pathOk, pathOf}
 use Rattle.name_object.specs.declared.AmlName.{AmlName}
@@ -90,8 +90,7 @@ pub record Joins (path scope : AmlName) : Type 0 where
 
 -- components that were read, before those that follow
 abbrev pub after : List Component → Answer (List Component) → Answer (List Component)
-after done (gives cs) = gives (done ++ cs)
-after done (refuses n p) = refuses n p
+after done r = andThen r (λ cs. gives (done ++ cs))
 
 -- memory and a reader show the components that were read, and the characters of a segment that is begun
 abbrev pub Held : List ℕ → Reading → ℕ → List Component → Place → Type 0

@@ -1,6 +1,6 @@
 -- What was counted and what is left make the whole.
 use mathlib.Core.Path.{_≡_, ap}
-use Prim.Native.Nat.{_+_, _-_, _≤_, _<_}
+use Prim.Native.Nat.{_+_, _-_, _*_, _≤_}
 use lib.ListN.{length, drop}
 use Rattle.name_object.specs.Component.{componentLimit}
 use Rattle.name_object.specs.Memory.{pathOf}
@@ -16,7 +16,7 @@ use Rattle.path.proofs.text.text_length.Tie as tie
 
 abbrev Inv-loop : tie.InvT-loop
 Inv-loop bytes count n₀ i₀ n i =
-    (i ≤ count) × (count ≤ componentLimit) × (length (textOf (pathOf (nameIn count bytes))) < 160)
+    (i ≤ count) × (count ≤ componentLimit) × (length (textOf (pathOf (nameIn count bytes))) ≤ 5 * componentLimit - 1)
     × (n + length (textOf (drop i (pathOf (nameIn count bytes)))) ≡ length (textOf (pathOf (nameIn count bytes))))
 
 abbrev μ-loop : tie.MeasureT-loop
@@ -27,7 +27,7 @@ loop-holds : tie.Need-loop-holds Inv-loop μ-loop
 loop-holds c =
     let name = nameIn (c .args .count) (c .args .bytes .now) in
     let k = path-fine componentLimit name (c .pre .1) .1 in
-    (omega arith, k, text-bound componentLimit (pathOf name) (omega arith) (omega (arith, length-path name)), omega arith)
+    (omega arith, k, text-bound componentLimit (pathOf name) (omega (arith, length-path name)), omega arith)
 
 add-n : tie.Need-add-n Inv-loop μ-loop
 add-n c =
