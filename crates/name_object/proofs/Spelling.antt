@@ -11,7 +11,7 @@ use lib.ListN.{length, getD, take, drop, length-append, length-drop, take-append
 use lib.Seq.{drop-cons, drop-at, take-at, drop-drop, getD-drop, length-take-le}
 use borrow.Author.Tests.{eqb-true, eqb-false, ne-eqb, leb-true}
 use Rattle.pkg_length.specs.Refusal.{Answer, gives, refuses, andThen}
-use Rattle.pkg_length.proofs.Answers.{refuses-not, gives-same, then-gives}
+use Rattle.pkg_length.proofs.Answers.{never, unlike, refuses-not, gives-same, then-gives}
 use Rattle.name_object.specs.Component.{Component, root, up, seg, leadOk, charOk, segOk, fine}
 use Rattle.name_object.specs.Memory.{Named, nameOf, pathIn, pathOk, told}
 use Rattle.name_object.specs.Name.{byteAt, segment, segments, runAt, namePath, carets, prefixOf, spelled, judged, nameString}
@@ -162,7 +162,7 @@ spelled-stands xs v h = go xs (eqb (getD xs 0 0) 0x5C) refl h
     go : (ys : List ℕ) (t : Bool) → eqb (getD ys 0 0) 0x5C ≡ t →
         andThen (namePath ys (length (cond t (root ∷ []) (carets ys)))) (λ n. gives (record { path = cond t (root ∷ []) (carets ys) ++ n .path; value = n .value })) ≡ gives v →
         Stands (NameString (v .path)) ys 0 (v .value)
-    go [] true e h = absurd (let z : _≡_ {A = Bool} false true = e in let y : _≡_ {A = ℕ} 0 1 = cc in omega arith)
+    go [] true e h = never e
     go (y ∷ ys) true e h =
         let t = then-gives (namePath (y ∷ ys) 1) _ h in
         let st = path-sound (y ∷ ys) 1 (t .0) (t .1) in
@@ -213,7 +213,7 @@ segs-complete (more {t = t} (four {a = a} {b = b} {c = c} {d = d} la cb cc′ cd
 
 -- a lead is none of the bytes that begin the other NamePaths, nor a prefix
 lead-not : (a k : ℕ) → leadOk a ≡ true → leadOk k ≡ false → eqb a k ≡ false
-lead-not a k h n = ne-eqb a k (λ e. let y : true ≡ false = sym h ∙ ap leadOk e ∙ n in let z : _≡_ {A = ℕ} 0 1 = cc in omega arith)
+lead-not a k h n = ne-eqb a k (unlike leadOk a k h n)
 
 no-lead : (leadOk 0x00 ≡ false) × (leadOk 0x2E ≡ false) × (leadOk 0x2F ≡ false) × (leadOk 0x5C ≡ false) × (leadOk 0x5E ≡ false)
 unfolding leadOk
