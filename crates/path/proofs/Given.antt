@@ -2,20 +2,21 @@
 -- A call gives components that are fine and within the limit, from a path that is so; the empty path, which stands beside a refusal, is a path.
 use mathlib.Core.Path.{_≡_, refl, sym, _∙_, ap}
 use mathlib.Core.Bool.{Bool, true, false, cond}
-use mathlib.Core.List.{List, [], _∷_}
+use mathlib.Core.List.{List, [], _∷_, dropLast}
 use Prim.Native.Nat.{ℕ, _≤_, _<_}
 use native.Mathlib.Omega.{arith}
-use lib.ListN.{length, getD}
+use lib.ListN.{length, getD, length-append}
 use Rattle.pkg_length.specs.Refusal.{Answer, gives, refuses, andThen}
-use Rattle.pkg_length.proofs.Answers.{refuses-not, gives-same, then-gives}
-use Rattle.name_object.specs.Component.{Component, root, up, seg, segOk, fine}
-use Rattle.name_object.specs.Memory.{nameOf, pathOk, pathOf, pathIn, told}
+use Rattle.pkg_length.proofs.Answers.{refuses-not, gives-same}
+use Rattle.name_object.specs.Component.{Component, root, seg, segOk, fine}
+use Rattle.name_object.specs.Memory.{nameOf, popped, pathOk, pathOf, pathIn, told}
 use Rattle.name_object.specs.declared.AmlName.{AmlName}
 use Rattle.name_object.proofs.Paths.{path-fine, fine-path, told-is-path}
-use Rattle.path.specs.Normal.{normal, resolved, parentOf, segmentPath, alone}
+use Rattle.path.specs.Normal.{normal, resolved, top, parentOf, segmentPath, alone}
 use Rattle.path.specs.Text.{fromText}
-use Rattle.path.proofs.Walks.{normal-fine, length-path, fine-front}
-use Rattle.path.proofs.Laws.{resolved-kept, parent-less}
+use Rattle.path.proofs.Walks.{length-path, fine-front}
+use Rattle.path.proofs.Laws.{normalised, resolved-kept, parent-less}
+use Rattle.path.proofs.Answers.{parent-by, parent-memory, length-last}
 use Rattle.path.proofs.Texts.{text-sound, text-fine}
 
 -- components that a path has: fine, and within the limit
@@ -43,6 +44,37 @@ in-path limit name f k ds h = go (pathOk limit name) refl h
     go true e h = let p = path-fine limit name e in k (pathOf name) (record { good = p .0; room = rw (length-path name) (p .1) }) ds h
     go false e h = refuses-not h
 
+normal-good : (limit : ℕ) (name : AmlName) → Gives limit (andThen (pathIn limit name) (normal limit))
+unfolding Gives
+normal-good limit name = in-path limit name (normal limit) (λ cs g ds h. let n = normalised limit cs ds (g .good) h in record { good = n .good; room = n .room })
+
+-- ## The parent, from the normal form in memory
+
+module _ (limit : ℕ) (name m : AmlName) (ns : List Component) (e : andThen (pathIn limit name) (normal limit) ≡ gives ns) (is : m ≡ nameOf limit ns) where
+  good : Good limit ns
+  unfolding Gives
+  good = normal-good limit name ns e
+
+  held : pathOf m ≡ ns
+  held = ap pathOf is ∙ fine-path limit ns (good .good) (good .room) .1
+
+  pub parent-top : top (pathOf m) ≡ true → refuses 12 0 ≡ andThen (pathIn limit name) (parentOf limit)
+  parent-top t = sym (rw (sym (ap top held) ∙ t)) ∙ parent-by limit name e
+
+  module _ (t : top (pathOf m) ≡ false) where
+    pub parent-given : gives (dropLast ns) ≡ andThen (pathIn limit name) (parentOf limit)
+    parent-given = sym (rw (sym (ap top held) ∙ t)) ∙ parent-by limit name e
+
+    pub parent-popped : popped m ≡ nameOf limit (dropLast ns)
+    parent-popped = ap popped is ∙ parent-memory limit ns (sym (ap top held) ∙ t) (good .room)
+
+    pub parent-count : (0 < m .count) × (m .count ≤ limit)
+    parent-count =
+        let c : m .count ≡ length ns = sym (length-path m) ∙ ap length held in
+        (omega (arith, length-last ns (sym (ap top held) ∙ t)), omega (arith, good .room))
+
+-- ## The calls
+
 module _ (limit : ℕ) where
   pub text-is-path : (text : List ℕ) → pathOk limit (told limit (alone (fromText limit text)) .memory) ≡ true
   unfolding Gives
@@ -54,17 +86,15 @@ module _ (limit : ℕ) where
       handed limit (pathIn limit name) (λ cs h. in-path limit name gives (λ ds g es k. rw (gives-same k) at g) cs (ap (λ (a : Answer (List Component)). andThen a gives) h))
 
   pub normal-is-path : (name : AmlName) → pathOk limit (told limit (alone (andThen (pathIn limit name) (normal limit))) .memory) ≡ true
-  unfolding Gives
-  normal-is-path name =
-      handed limit _ (in-path limit name (normal limit) (λ cs g ds h. let n = normal-fine limit cs ds (g .good) h in record { good = n .0; room = n .1 }))
+  normal-is-path name = handed limit _ (normal-good limit name)
 
   pub parent-is-path : (name : AmlName) → pathOk limit (told limit (alone (andThen (pathIn limit name) (parentOf limit))) .memory) ≡ true
   unfolding Gives
   parent-is-path name =
       handed limit _ (in-path limit name (parentOf limit) (λ cs g ds h.
       let p = parent-less limit cs ds h in
-      let n = normal-fine limit cs (p .0) (g .good) (p .1) in
-      record { good = fine-front true ds _ (rw (p .2) at (n .0)); room = omega (arith, p .3, n .1) }))
+      let n = normalised limit cs (p .0) (g .good) (p .2) in
+      record { good = fine-front true ds (p .1 ∷ []) (rw (p .3) at (n .good)); room = omega (arith, n .room, ap length (p .3), length-append ds (p .1 ∷ [])) }))
 
   pub resolved-is-path : (name scope : AmlName) →
       pathOk limit (told limit (alone (andThen (pathIn limit name) (λ cs. andThen (pathIn limit scope) (λ ss. resolved limit cs ss)))) .memory) ≡ true

@@ -1,6 +1,6 @@
 -- Text reading and the grammar agree: reading accepts exactly the texts of the grammar, one text has one path, and what is written is read back.
 -- A reader inside a segment has read a word `bs` of it, so that `bs` and the rest are parts; each turn of the reader is a step of a derivation.
-use mathlib.Core.Path.{_≡_, refl, sym, _∙_, ap, subst}
+use mathlib.Core.Path.{_≡_, refl, sym, _∙_, ap}
 use mathlib.Core.Bool.{Bool, true, false, cond}
 use mathlib.Core.List.{List, [], _∷_, _++_, append-assoc, append-nil}
 use Prim.Native.Nat.{ℕ, zero, suc, _+_, _-_, _*_, _≤_, _<_}
@@ -10,17 +10,15 @@ use lib.ListN.{length, getD, take, drop, length-append, List·getD-append}
 use lib.Seq.{take-at}
 use borrow.Author.Tests.{eqb-true, ltb-true, le-leb}
 use Rattle.pkg_length.specs.Refusal.{Answer, gives, refuses, andThen}
-use Rattle.pkg_length.proofs.Answers.{refuses-not, gives-same, then-gives}
-use Rattle.name_object.specs.Component.{Component, root, up, seg, leadOk, digitOk, charOk, segOk, fine}
+use Rattle.pkg_length.proofs.Answers.{unlike, refuses-not, gives-same, then-gives}
+use Rattle.name_object.specs.Component.{Component, root, up, leadOk, digitOk, charOk, segOk, fine}
 use Rattle.name_object.specs.Memory.{nameOf, pathIn, Told, told}
 use Rattle.name_object.specs.declared.AmlName.{AmlName}
-use Rattle.name_object.proofs.Paths.{path-back, fine-later}
+use Rattle.name_object.proofs.Paths.{path-back, fine-later, lead-marks}
 use Rattle.path.specs.Normal.{limited, alone}
 use Rattle.path.specs.Text.{Place, before, inside, padded, consed, reading, afterRoot, textPath, fromText, textOf, textWithin, Wrote, wrote}
 use Rattle.path.specs.TextGrammar.{Word, lead, next, Part, word, above, Parts, last, more, Text, bare, rooted, plain}
-use Rattle.path.proofs.Basics.{wrong}
 use Rattle.path.proofs.Walks.{limited-given, limited-in, limited-over}
-use Rattle.path.proofs.Climbs.{lead-not, lead-5C, lead-5E}
 use Rattle.path.proofs.Readings.{read-up, read-lead, read-dot, read-char, text-plain, text-rooted}
 use Rattle.path.proofs.Writings.{text-bound}
 
@@ -113,12 +111,12 @@ word-char (next b {s} w k l) i = go s (λ j. word-char w j) i
 word-then : {w : List ℕ} → Word w → (r : List ℕ) (p : ℕ) → reading before p (w ++ r) ≡ reading (inside p w) (p + length w) r
 word-then (lead {a} h) r p =
     let e : suc p ≡ p + 1 = omega arith in
-    read-lead p a r (lead-not a 0x5E h lead-5E) h ∙ ap (λ (n : ℕ). reading (inside p (a ∷ [])) n r) e
+    read-lead p a r (lead-marks a h .1) h ∙ ap (λ (n : ℕ). reading (inside p (a ∷ [])) n r) e
 word-then (next b {s} w k l) r p =
     let e : suc (p + length s) ≡ p + length (s ++ (b ∷ [])) = omega (arith, length-append s (b ∷ [])) in
     ap (reading before p) (append-assoc s (b ∷ []) r)
     ∙ word-then w (b ∷ r) p
-    ∙ read-char (p + length s) b r p s (λ d. wrong k (ap charOk d ∙ char-2E)) l k
+    ∙ read-char (p + length s) b r p s (unlike charOk b 0x2E k char-2E) l k
     ∙ ap (λ (n : ℕ). reading (inside p (s ++ (b ∷ []))) n r) e
 
 part-end : {cs : List Component} {s : List ℕ} → Part cs s → (p : ℕ) → reading before p s ≡ gives cs
@@ -138,7 +136,7 @@ parts-complete (more {ds = ds} {t = t} u v) p = part-dot ds t u (λ q. parts-com
 
 -- parts start with a `^` or a lead
 part-first : {cs : List Component} {s : List ℕ} → Part cs s → (0 < length s) × (getD s 0 0 ≡ 0x5C → ⊥)
-part-first (word w) = let f = word-lead w 0 in (f .0, lead-not _ 0x5C (f .1) lead-5C)
+part-first (word w) = let f = word-lead w 0 in (f .0, lead-marks _ (f .1) .0)
 part-first (above t) = (omega arith, λ e. omega arith)
 
 parts-first : {cs : List Component} {s : List ℕ} → Parts cs s → (0 < length s) × (getD s 0 0 ≡ 0x5C → ⊥)

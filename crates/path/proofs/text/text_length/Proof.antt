@@ -4,7 +4,6 @@ use Prim.Native.Nat.{_+_, _-_, _*_, _≤_}
 use lib.ListN.{length, drop}
 use Rattle.name_object.specs.Component.{componentLimit}
 use Rattle.name_object.specs.Memory.{pathOf}
-use Rattle.name_object.proofs.Paths.{path-fine}
 use Rattle.path.specs.Text.{textOf}
 use Rattle.path.specs.Inside.{nameIn}
 use Rattle.path.proofs.Writings.{text-bound, text-end, length-next}
@@ -26,19 +25,18 @@ abbrev μ-loop : tie.MeasureT-loop
 loop-holds : tie.Need-loop-holds Inv-loop μ-loop
 loop-holds c =
     let name = nameIn (c .args .count) (c .args .bytes .now) in
-    let k = path-fine componentLimit name (c .pre .1) .1 in
-    (omega arith, k, text-bound componentLimit (pathOf name) (omega (arith, length-path name)), omega arith)
+    (omega arith, c .pre, text-bound componentLimit (pathOf name) (omega (arith, length-path name)), omega arith)
 
 add-n : tie.Need-add-n Inv-loop μ-loop
 add-n c =
     let name = nameIn (c .before .before .before .before .args .count) (c .before .before .before .before .args .bytes .now) in
-    omega (arith, c .piece-length .ensures, length-next name (c .before .before .before .loop .i) (c .before .before .before .before .pre .0) (c .before .before .before .before .pre .1) (omega arith))
+    omega (arith, c .piece-length .ensures, length-next name (c .before .before .before .loop .i) (omega arith))
 
 loop-again : tie.Need-loop-again Inv-loop μ-loop
 loop-again c =
     let name = nameIn (c .before .before .before .before .args .count) (c .before .before .before .before .args .bytes .now) in
     let l = c .before .before .before .loop in
-    (omega arith, l .inv .1, l .inv .2, omega (arith, c .piece-length .ensures, length-next name (l .i) (c .before .before .before .before .pre .0) (c .before .before .before .before .pre .1) (omega arith)))
+    (omega arith, l .inv .1, l .inv .2, omega (arith, c .piece-length .ensures, length-next name (l .i) (omega arith)))
 
 returns : tie.Need-returns Inv-loop μ-loop
 returns c =
