@@ -1,6 +1,6 @@
 -- A loop that looks at every byte: whether all before j were zero, and those from j on are.
 use mathlib.Core.Path.{_≡_, refl}
-use mathlib.Core.Bool.{Bool, true, false, _&&_}
+use mathlib.Core.Bool.{Bool, true, false, _&&_, cond}
 use mathlib.Core.List.{List}
 use Prim.Native.Nat.{ℕ, suc, _+_, _≤_, _<_}
 use native.Mathlib.Omega.{arith}
@@ -19,3 +19,8 @@ pub clean-end : (bs : List ℕ) (j : ℕ) (clean : Bool) → length bs ≤ j →
 unfolding allZero
 clean-end bs j true h = rw (drop-of-length-le bs h)
 clean-end bs j false h = refl
+
+-- a test that is a choice, as the layers above write it
+pub cond-and : (t u : Bool) → cond t u false ≡ (t && u)
+cond-and true u = refl
+cond-and false u = refl

@@ -5,16 +5,17 @@ use mathlib.Core.List.{List, [], _∷_, _++_}
 use Prim.Native.Nat.{ℕ, zero, suc, _+_, _*_, _/_, _%_, _<_, _≤_}
 use native.Mathlib.Omega.{arith}
 use native.Mathlib.Numerals.{add-one}
-use lib.Dec.{leb, ltb, eqb}
+use lib.Dec.{ltb}
 use lib.ListN.{length, take, getD, set}
 use lib.Seq.{take-suc, take-suc-set, take-all}
-use borrow.Author.Tests.{eqb-true, leb-true, ltb-true, ltb-false}
+use borrow.Author.Tests.{ltb-true, ltb-false}
 use Rattle.pkg_length.specs.Refusal.{Answer, gives, refuses, refused, andThen}
 use Rattle.pkg_length.specs.declared.AmlError.{AmlError}
-use Rattle.name_object.specs.Component.{Component, root, up, seg, leadOk, digitOk, charOk, segOk, fine, spellOne, componentLimit}
+use Rattle.name_object.specs.Component.{Component, root, up, seg, segOk, fine, spellOne, componentLimit}
 use Rattle.name_object.specs.Memory.{told, nameOf, pathOk, pathOf, pathIn}
 use Rattle.name_object.specs.declared.AmlName.{AmlName}
-use Rattle.name_object.proofs.Paths.{both, path-fine, fine-path}
+use Rattle.pkg_length.proofs.Answers.{halves}
+use Rattle.name_object.proofs.Paths.{path-fine, fine-path, lead-range, char-low, seg-chars}
 use Rattle.path.specs.Normal.{absolute, isNormal, normal, resolved, alone, pathTold}
 use Rattle.path.specs.declared.PathSaid.{PathSaid}
 use Rattle.path.specs.declared.PathAnswer.{PathAnswer}
@@ -29,23 +30,6 @@ use Rattle.namespace.specs.Inside.{Settled}
 use Rattle.table.proofs.Shape.{clash}
 use Rattle.table.proofs.Near.{length-keys}
 
--- characters are bytes
-lead-low : (b : ℕ) → leadOk b ≡ true → b < 96
-unfolding leadOk
-lead-low b h = go (eqb b 0x5F) refl h
-  where
-    go : (t : Bool) → eqb b 0x5F ≡ t → cond t true (cond (leb 0x41 b) (leb b 0x5A) false) ≡ true → b < 96
-    go true e k = omega (arith, eqb-true b 0x5F e)
-    go false e k = omega (arith, leb-true b 0x5A (both (leb 0x41 b) (leb b 0x5A) k .1))
-
-char-low : (b : ℕ) → charOk b ≡ true → b < 96
-unfolding charOk digitOk
-char-low b h = go (leadOk b) refl h
-  where
-    go : (t : Bool) → leadOk b ≡ t → cond t true (cond (leb 0x30 b) (leb b 0x39) false) ≡ true → b < 96
-    go true e k = lead-low b e
-    go false e k = omega (arith, leb-true b 0x39 (both (leb 0x30 b) (leb b 0x39) k .1))
-
 pub record Low (a b c d : ℕ) : Type 0 where
   pub first : a < 96
   pub second : b < 96
@@ -53,12 +37,9 @@ pub record Low (a b c d : ℕ) : Type 0 where
   pub fourth : d < 96
 
 pub seg-low : (a b c d : ℕ) → segOk a b c d ≡ true → Low a b c d
-unfolding segOk
 seg-low a b c d h =
-    let x = both (leadOk a) _ h in
-    let y = both (charOk b) _ (x .1) in
-    let z = both (charOk c) (charOk d) (y .1) in
-    record { first = lead-low a (x .0); second = char-low b (y .0); third = char-low c (z .0); fourth = char-low d (z .1) }
+    let s = seg-chars a b c d h in
+    record { first = lead-range a (s .0) .1; second = char-low b (s .1); third = char-low c (s .2); fourth = char-low d (s .3) }
 
 -- a segment's number is a segment
 pub number-ok : (a b c d : ℕ) → segOk a b c d ≡ true → segmentOk (number a b c d) ≡ true
@@ -102,8 +83,8 @@ unfolding fine
 segs-at [] i f n h = absurd (omega arith)
 segs-at (root ∷ es) i f n h = clash (sym f)
 segs-at (up ∷ es) i f n h = clash (sym n)
-segs-at (seg a b c d ∷ es) zero f n h = record { a = a; b = b; c = c; d = d; is = refl; ok = both (segOk a b c d) (fine false es) f .0 }
-segs-at (seg a b c d ∷ es) (suc i) f n h = segs-at es i (both (segOk a b c d) (fine false es) f .1) n (omega arith)
+segs-at (seg a b c d ∷ es) zero f n h = record { a = a; b = b; c = c; d = d; is = refl; ok = halves (segOk a b c d) (fine false es) f .0 }
+segs-at (seg a b c d ∷ es) (suc i) f n h = segs-at es i (halves (segOk a b c d) (fine false es) f .1) n (omega arith)
 
 module _ (limit : ℕ) (cs : List Component) (k : Kept limit cs) where
   pub seg-at : (i : ℕ) → 0 < i → i < length cs → SegAt (getD cs i up)

@@ -9,11 +9,11 @@ use lib.ListN.{length, getD, take, drop, take-append-drop}
 use lib.Seq.{take-suc, take-all, drop-cons}
 use borrow.Author.Tests.{eq-eqb, ne-eqb}
 use Rattle.pkg_length.specs.Refusal.{Answer, gives, refuses}
-use Rattle.pkg_length.proofs.Answers.{never, wrong}
+use Rattle.pkg_length.proofs.Answers.{halves, never, wrong}
 use Rattle.name_object.specs.Component.{Component, root, up, seg, segOk, fine, spellOne}
 use Rattle.name_object.specs.Memory.{zeros}
 use Rattle.name_object.specs.declared.AmlName.{AmlName}
-use Rattle.name_object.proofs.Paths.{both, seg-lead, lead-marks}
+use Rattle.name_object.proofs.Paths.{seg-lead, lead-marks}
 use Rattle.path.specs.declared.climb.Climb.{Climb}
 use Rattle.path.specs.Normal.{step, walk, upright, absolute}
 use Rattle.path.specs.Inside.{placed, standing, segmentLast, fresh, Shows, Climbed, Stepped, Walked}
@@ -69,7 +69,7 @@ module _ (limit : ℕ) (out : List ℕ) (high : ℕ) (done : List Component) (s 
               memory = rw (h, s .memory, upright-cons (seg a b c d) done) (shown-pop limit (upright done) (seg a b c d) a b c d refl);
               height = omega (arith, s .height);
               rooted = s .rooted;
-              good = both (segOk a b c d) (standing (s .rooted) done) (s .good) .1;
+              good = halves (segOk a b c d) (standing (s .rooted) done) (s .good) .1;
             },
           )
 
@@ -119,7 +119,7 @@ module _ (limit : ℕ) (out : List ℕ) (high : ℕ) (done : List Component) (s 
       go (root ∷ rest) s = ap not (eq-eqb _ 0x5C (byte root rest s 0x5C 0 0 0 refl))
       go (up ∷ rest) s = never (s .good)
       go (seg a b c d ∷ rest) s =
-          let k = lead-marks a (seg-lead a b c d (both (segOk a b c d) (standing (s .rooted) rest) (s .good) .0)) in
+          let k = lead-marks a (seg-lead a b c d (halves (segOk a b c d) (standing (s .rooted) rest) (s .good) .0)) in
           ap not (ne-eqb (getD out (4 * (high - 1)) 0) 0x5C (λ e. k .0 (sym (byte (seg a b c d) rest s a b c d refl) ∙ e)))
 
 -- nothing stands in zeros

@@ -6,9 +6,8 @@ use Prim.Native.Nat.{ℕ, _+_, _≤_}
 use native.Mathlib.Omega.{arith}
 use lib.ListN.{length}
 use Rattle.pkg_length.specs.Refusal.{Answer, gives, refuses}
-use Rattle.pkg_length.proofs.Answers.{never, refuses-not, gives-same, then-gives}
+use Rattle.pkg_length.proofs.Answers.{halves, never, refuses-not, gives-same, then-gives}
 use Rattle.name_object.specs.Component.{Component, root, up, seg, segOk, fine}
-use Rattle.name_object.proofs.Paths.{both}
 use Rattle.path.specs.Normal.{step, walk, upright, limited, normal, absolute, isNormal, resolved, top, parentOf}
 use Rattle.path.specs.Inside.{standing}
 use Rattle.path.proofs.Walks.{walk-refused, length-upright, upright-cons, walk-good, fine-append, fine-relative, limited-in, normal-given, normal-by}
@@ -42,7 +41,7 @@ stood r (root ∷ []) h = (refl, refl, sym h)
 stood r (root ∷ x ∷ done) h = never h
 stood r (up ∷ done) h = never h
 stood r (seg a b c d ∷ done) h =
-    let g = both (segOk a b c d) (standing r done) h in
+    let g = halves (segOk a b c d) (standing r done) h in
     let k = stood r done (g .1) in
     rw (upright-cons (seg a b c d) done)
     (fine-append true (upright done) (seg a b c d ∷ []) (k .0) (fine-seg a b c d (g .0)), plain-last (upright done) a b c d (k .1), first-last (upright done) a b c d ∙ k .2)

@@ -9,12 +9,12 @@ use lib.ListN.{length, getD, drop, length-reverse}
 use lib.Seq.{drop-cons}
 use borrow.Author.Tests.{le-leb, lt-leb, leb-true}
 use Rattle.pkg_length.specs.Refusal.{Answer, gives, refuses, andThen}
-use Rattle.pkg_length.proofs.Answers.{never, wrong, refuses-not, gives-same, then-gives}
+use Rattle.pkg_length.proofs.Answers.{halves, never, wrong, refuses-not, gives-same, then-gives}
 use Rattle.name_object.specs.Component.{Component, root, up, seg, segOk, fine, spellOne, spell, componentLimit}
 use Rattle.name_object.specs.Memory.{nameOf, zeros, componentOf, pathOk, pathOf}
 use Rattle.name_object.specs.declared.AmlName.{AmlName}
 use Rattle.name_object.proofs.Memory.{read-at}
-use Rattle.name_object.proofs.Paths.{both, name-whole, length-components, component-at, fine-later}
+use Rattle.name_object.proofs.Paths.{name-whole, length-components, component-at, fine-later}
 use Rattle.path.specs.Normal.{step, walk, upright, limited, normal, absolute, resolved}
 use Rattle.path.specs.Inside.{Known, standing, fresh}
 
@@ -52,24 +52,24 @@ fine-any false cs h = h
 
 pub fine-tail : (b : Bool) (x : Component) (cs : List Component) → fine b (x ∷ cs) ≡ true → fine false cs ≡ true
 unfolding fine
-fine-tail b root cs h = both b (fine false cs) h .1
+fine-tail b root cs h = halves b (fine false cs) h .1
 fine-tail b up cs h = h
-fine-tail b (seg p q r s) cs h = both (segOk p q r s) (fine false cs) h .1
+fine-tail b (seg p q r s) cs h = halves (segOk p q r s) (fine false cs) h .1
 
 -- components before others, which may be joined to them
 pub fine-append : (b : Bool) (cs ds : List Component) → fine b cs ≡ true → fine false ds ≡ true → fine b (cs ++ ds) ≡ true
 unfolding fine
 fine-append b [] ds h k = fine-any b ds k
-fine-append b (root ∷ cs) ds h k = let g = both b (fine false cs) h in rw (g .0) (fine-append false cs ds (g .1) k)
+fine-append b (root ∷ cs) ds h k = let g = halves b (fine false cs) h in rw (g .0) (fine-append false cs ds (g .1) k)
 fine-append b (up ∷ cs) ds h k = fine-append false cs ds h k
-fine-append b (seg p q r s ∷ cs) ds h k = let g = both (segOk p q r s) (fine false cs) h in rw (g .0) (fine-append false cs ds (g .1) k)
+fine-append b (seg p q r s ∷ cs) ds h k = let g = halves (segOk p q r s) (fine false cs) h in rw (g .0) (fine-append false cs ds (g .1) k)
 
 pub fine-front : (b : Bool) (cs ds : List Component) → fine b (cs ++ ds) ≡ true → fine b cs ≡ true
 unfolding fine
 fine-front b [] ds h = refl
-fine-front b (root ∷ cs) ds h = let g = both b (fine false (cs ++ ds)) h in rw (g .0) (fine-front false cs ds (g .1))
+fine-front b (root ∷ cs) ds h = let g = halves b (fine false (cs ++ ds)) h in rw (g .0) (fine-front false cs ds (g .1))
 fine-front b (up ∷ cs) ds h = fine-front false cs ds h
-fine-front b (seg p q r s ∷ cs) ds h = let g = both (segOk p q r s) (fine false (cs ++ ds)) h in rw (g .0) (fine-front false cs ds (g .1))
+fine-front b (seg p q r s ∷ cs) ds h = let g = halves (segOk p q r s) (fine false (cs ++ ds)) h in rw (g .0) (fine-front false cs ds (g .1))
 
 -- a path that is not absolute may be joined, and one that may be is not
 pub fine-relative : (cs : List Component) → absolute cs ≡ false → fine true cs ≡ true → fine false cs ≡ true
@@ -88,7 +88,7 @@ later-relative (seg a b c d ∷ cs) h = refl
 
 pub seg-of : (a b c d : ℕ) (f : Bool) → fine f (seg a b c d ∷ []) ≡ true → segOk a b c d ≡ true
 unfolding fine
-seg-of a b c d f h = both (segOk a b c d) true h .0
+seg-of a b c d f h = halves (segOk a b c d) true h .0
 
 -- ## What stands stays good
 
@@ -101,7 +101,7 @@ step-good r (y ∷ done) ds root ok h e = never h
 step-good r [] ds up ok h e = refuses-not e
 step-good r (root ∷ done) ds up ok h e = refuses-not e
 step-good r (up ∷ done) ds up ok h e = refuses-not e
-step-good r (seg a b c d ∷ done) ds up ok h e = rw (sym (gives-same e)) (both (segOk a b c d) (standing r done) ok .1)
+step-good r (seg a b c d ∷ done) ds up ok h e = rw (sym (gives-same e)) (halves (segOk a b c d) (standing r done) ok .1)
 step-good r [] ds (seg a b c d) ok h e = rw (sym (gives-same e), seg-of a b c d true h) ok
 step-good r (y ∷ done) ds (seg a b c d) ok h e = rw (sym (gives-same e), seg-of a b c d false h) ok
 

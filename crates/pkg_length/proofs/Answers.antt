@@ -1,6 +1,6 @@
 -- The small facts that every layer cites, in plain variables: a test has one outcome, and what an answer that gives came from.
 use mathlib.Core.Path.{_≡_, refl, sym, _∙_, ap}
-use mathlib.Core.Bool.{Bool, true, false, false≢true}
+use mathlib.Core.Bool.{Bool, true, false, _&&_, false≢true, and-eq-true-iff}
 use Prim.Native.Nat.{ℕ}
 use native.Mathlib.Omega.{arith}
 use Rattle.pkg_length.specs.Refusal.{Answer, gives, refuses, andThen}
@@ -11,6 +11,10 @@ never h = absurd (false≢true h)
 
 pub wrong : {T : Type 0} {b : Bool} → b ≡ true → b ≡ false → T
 wrong p q = never (sym q ∙ p)
+
+-- both halves of a test
+pub halves : (t u : Bool) → (t && u) ≡ true → (t ≡ true) × (u ≡ true)
+halves t u h = and-eq-true-iff t u .0 h
 
 -- a byte of which a test holds is none of which it fails
 pub unlike : (ok : ℕ → Bool) (a k : ℕ) → ok a ≡ true → ok k ≡ false → a ≡ k → ⊥

@@ -7,25 +7,16 @@ use native.Mathlib.Omega.{arith}
 use lib.Dec.{leb, ltb, eqb}
 use lib.ListN.{length}
 use borrow.Author.Tests.{ltb-true, leb-true, eqb-true, lt-ltb, le-leb}
-use Rattle.name_object.specs.Component.{leadOk, segOk}
-use Rattle.name_object.proofs.Paths.{both}
+use Rattle.name_object.proofs.Paths.{both, lead-range, seg-lead}
 use Rattle.table.specs.Tree.{Binding, Forest, none, level}
 use Rattle.table.specs.Valid.{segmentOk, rising, nameOk, countOk, levelOk, forestOk}
 
 pub clash : {A : Type 0} → true ≡ false → A
 clash e = absurd (let z : _≡_ {A = ℕ} 0 1 = cc in omega arith)
 
-lead-high : (b : ℕ) → leadOk b ≡ true → (64 < b) × (b < 96)
-unfolding leadOk
-lead-high b h = go (eqb b 0x5F) refl h
-  where
-    go : (t : Bool) → eqb b 0x5F ≡ t → cond t true (cond (leb 0x41 b) (leb b 0x5A) false) ≡ true → (64 < b) × (b < 96)
-    go true e k = omega (arith, eqb-true b 0x5F e)
-    go false e k = let g = both (leb 0x41 b) (leb b 0x5A) k in omega (arith, leb-true 0x41 b (g .0), leb-true b 0x5A (g .1))
-
 pub segment-range : (s : ℕ) → segmentOk s ≡ true → (0 < s) × (s < 4294967296)
-unfolding segmentOk segOk
-segment-range s h = let g = lead-high (s / 16777216) (both _ _ h .0) in omega arith
+unfolding segmentOk
+segment-range s h = let g = lead-range (s / 16777216) (seg-lead _ _ _ _ h) in omega arith
 
 pub record LevelFit (limit made r lo s t : ℕ) (b : List Binding) : Type 0 where
   pub ok : levelOk limit r lo s t (length b) ≡ true

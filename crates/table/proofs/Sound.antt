@@ -12,6 +12,7 @@ use lib.ListN.{length, take, drop, getD, set, replicate, length-set, take-append
 use lib.Seq.{getD-set-same, getD-set-other, length-take-le}
 use borrow.Author.Tests.{eqb-true, eqb-false, ltb-true, ltb-false}
 use Rattle.name_object.specs.Memory.{allZero}
+use Rattle.pkg_length.proofs.Answers.{halves}
 use Rattle.name_object.proofs.Paths.{both}
 use Rattle.table.specs.Tree.{Binding, Forest, none, level, bound}
 use Rattle.table.specs.Layout.{pack, rankOf, typeOf, countOf, segOf, bindWord, bindingOf, flat}
@@ -122,7 +123,7 @@ lt-or-le m n = go (ltb m n) refl
 pub zeros-are : (bs : List ℕ) → allZero bs ≡ true → bs ≡ replicate (length bs) 0
 unfolding allZero
 zeros-are [] e = refl
-zeros-are (b ∷ bs) e = let a = both (eqb b 0) (allZero bs) e in ap₂ {C = List ℕ} _∷_ (eqb-true b 0 (a .0)) (zeros-are bs (a .1))
+zeros-are (b ∷ bs) e = let a = halves (eqb b 0) (allZero bs) e in ap₂ {C = List ℕ} _∷_ (eqb-true b 0 (a .0)) (zeros-are bs (a .1))
 
 -- how many ranks lie above
 split : (p m : ℕ) → m ≤ p → p ≡ (p - m) + m
