@@ -12,56 +12,34 @@ use Rattle.name_object.specs.Component.{Component, root, up, seg, segOk, spellO
 use Rattle.name_object.specs.Memory.{nameOf, componentOf, components, pushed, pathOf}
 use Rattle.name_object.specs.declared.AmlName.{AmlName}
 use Rattle.name_object.proofs.Memory.{push-one}
+use Rattle.name_object.proofs.Paths.{by-kind}
 use Rattle.path.specs.Normal.{absolute, isNormal, oneSegment, top, segmentPath}
 use Rattle.path.proofs.Walks.{path-next}
 
 -- ## Tests of the first component, at every count
 
--- a component, by what its first byte is compared with
-kind : Bool → Bool → List ℕ → Component
-kind s t bs = cond s root (cond t up (seg (getD bs 0 0) (getD bs 1 0) (getD bs 2 0) (getD bs 3 0)))
-
 abs-of : (n : ℕ) (bs : List ℕ) → (not (eqb n 0) && eqb (getD bs 0 0) 0x5C) ≡ absolute (components n bs)
-unfolding components componentOf kind
+unfolding components
 abs-of zero bs = refl
-abs-of (suc n) bs = rw (ne-eqb (suc n) 0 (λ e. omega arith)) (go (eqb (getD bs 0 0) 0x5C) (eqb (getD bs 0 0) 0x5E))
-  where
-    go : (s t : Bool) → s ≡ absolute (kind s t bs ∷ components n (drop 4 bs))
-    go true t = refl
-    go false true = refl
-    go false false = refl
+abs-of (suc n) bs =
+    rw (ne-eqb (suc n) 0 (λ e. omega arith)) (by-kind _ _ _ _ (λ x. eqb (getD bs 0 0) 0x5C ≡ absolute (x ∷ components n (drop 4 bs))) (λ e. e) (λ n u. n) (λ n u. n))
 
 one-of : (n : ℕ) (bs : List ℕ) → (eqb n 1 && not (eqb (getD bs 0 0) 0x5C) && not (eqb (getD bs 0 0) 0x5E)) ≡ oneSegment (components n bs)
-unfolding components componentOf kind
+unfolding components
 one-of zero bs = refl
-one-of (suc zero) bs = go (eqb (getD bs 0 0) 0x5C) (eqb (getD bs 0 0) 0x5E)
-  where
-    go : (s t : Bool) → (not s && not t) ≡ oneSegment (kind s t bs ∷ [])
-    go true t = refl
-    go false true = refl
-    go false false = refl
-one-of (suc (suc n)) bs = rw (ne-eqb (suc (suc n)) 1 (λ e. omega arith)) (go (eqb (getD bs 0 0) 0x5C) (eqb (getD bs 0 0) 0x5E))
-  where
-    go : (s t : Bool) → false ≡ oneSegment (kind s t bs ∷ components (suc n) (drop 4 bs))
-    go true t = refl
-    go false true = refl
-    go false false = refl
+one-of (suc zero) bs =
+    by-kind _ _ _ _ (λ x. (not (eqb (getD bs 0 0) 0x5C) && not (eqb (getD bs 0 0) 0x5E)) ≡ oneSegment (x ∷ [])) (λ e. rw e) (λ n e. rw (n, e)) (λ n m. rw (n, m))
+one-of (suc (suc n)) bs =
+    rw (ne-eqb (suc (suc n)) 1 (λ e. omega arith))
+    (by-kind _ _ _ _ (λ x. false ≡ oneSegment (x ∷ components (suc n) (drop 4 bs))) (λ e. refl) (λ n e. refl) (λ n m. refl))
 
 top-of : (n : ℕ) (bs : List ℕ) → (eqb n 0 || (eqb n 1 && eqb (getD bs 0 0) 0x5C)) ≡ top (components n bs)
-unfolding components componentOf kind
+unfolding components
 top-of zero bs = refl
-top-of (suc zero) bs = go (eqb (getD bs 0 0) 0x5C) (eqb (getD bs 0 0) 0x5E)
-  where
-    go : (s t : Bool) → s ≡ top (kind s t bs ∷ [])
-    go true t = refl
-    go false true = refl
-    go false false = refl
-top-of (suc (suc n)) bs = rw (ne-eqb (suc (suc n)) 0 (λ e. omega arith), ne-eqb (suc (suc n)) 1 (λ e. omega arith)) (go (eqb (getD bs 0 0) 0x5C) (eqb (getD bs 0 0) 0x5E))
-  where
-    go : (s t : Bool) → false ≡ top (kind s t bs ∷ components (suc n) (drop 4 bs))
-    go true t = refl
-    go false true = refl
-    go false false = refl
+top-of (suc zero) bs = by-kind _ _ _ _ (λ x. eqb (getD bs 0 0) 0x5C ≡ top (x ∷ [])) (λ e. e) (λ n u. n) (λ n u. n)
+top-of (suc (suc n)) bs =
+    rw (ne-eqb (suc (suc n)) 0 (λ e. omega arith), ne-eqb (suc (suc n)) 1 (λ e. omega arith))
+    (by-kind _ _ _ _ (λ x. false ≡ top (x ∷ components (suc n) (drop 4 bs))) (λ e. refl) (λ n e. refl) (λ n m. refl))
 
 module _ (name : AmlName) where
   pub rooted-is : (not (eqb (name .count) 0) && eqb (getD (name .bytes) 0 0) 0x5C) ≡ absolute (pathOf name)
@@ -79,14 +57,8 @@ module _ (name : AmlName) where
 -- ## No prefix in any component
 
 plain-of : (a b c d : ℕ) (cs : List Component) → isNormal (componentOf a b c d ∷ cs) ≡ (not (eqb a 0x5E) && isNormal cs)
-unfolding componentOf
-plain-of a b c d cs = go (eqb a 0x5C) (eqb a 0x5E) refl refl
-  where
-    go : (s t : Bool) → eqb a 0x5C ≡ s → eqb a 0x5E ≡ t → isNormal (cond s root (cond t up (seg a b c d)) ∷ cs) ≡ (not t && isNormal cs)
-    go true true e f = absurd (omega (arith, eqb-true a 0x5C e, eqb-true a 0x5E f))
-    go true false e f = refl
-    go false true e f = refl
-    go false false e f = refl
+plain-of a b c d cs =
+    by-kind a b c d (λ x. isNormal (x ∷ cs) ≡ (not (eqb a 0x5E) && isNormal cs)) (λ e. rw (ne-eqb a 0x5E (λ u. omega (arith, eqb-true a 0x5C e)))) (λ n e. rw e) (λ n m. rw m)
 
 module _ (name : AmlName) (i : ℕ) (h : i < name .count) where
   next-plain : isNormal (drop i (pathOf name)) ≡ (not (eqb (getD (name .bytes) (4 * i) 0) 0x5E) && isNormal (drop (suc i) (pathOf name)))

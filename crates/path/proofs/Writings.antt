@@ -12,6 +12,7 @@ use Rattle.pkg_length.specs.Refusal.{Answer, gives, refuses, andThen}
 use Rattle.name_object.specs.Component.{Component, root, up, seg}
 use Rattle.name_object.specs.Memory.{componentOf, pathOk, pathOf, pathIn}
 use Rattle.name_object.specs.declared.AmlName.{AmlName}
+use Rattle.name_object.proofs.Paths.{by-kind}
 use Rattle.path.specs.Text.{textOf, textWithin, Wrote, wrote}
 use Rattle.path.specs.Inside.{isMark, piece, pieceLength}
 use Rattle.path.proofs.Basics.{path-good}
@@ -25,14 +26,10 @@ pieceOf more up = 0x5E ∷ []
 pieceOf more (seg a b c d) = a ∷ b ∷ c ∷ d ∷ cond more (0x2E ∷ []) []
 
 piece-is : (more : Bool) (a b c d : ℕ) → pieceOf more (componentOf a b c d) ≡ piece more a b c d
-unfolding piece pieceOf componentOf
-piece-is more a b c d = go (eqb a 0x5C) (eqb a 0x5E) refl refl
-  where
-    go : (s t : Bool) → eqb a 0x5C ≡ s → eqb a 0x5E ≡ t →
-        pieceOf more (cond s root (cond t up (seg a b c d))) ≡ cond (s || t) (a ∷ []) (a ∷ b ∷ c ∷ d ∷ cond more (0x2E ∷ []) [])
-    go true t e f = ap (λ (n : ℕ). n ∷ []) (sym (eqb-true a 0x5C e))
-    go false true e f = ap (λ (n : ℕ). n ∷ []) (sym (eqb-true a 0x5E f))
-    go false false e f = refl
+unfolding piece pieceOf
+piece-is more a b c d =
+    by-kind a b c d (λ x. pieceOf more x ≡ cond (isMark a) (a ∷ []) (a ∷ b ∷ c ∷ d ∷ cond more (0x2E ∷ []) []))
+    (λ e. rw (e, eqb-true a 0x5C e)) (λ n e. rw (n, e, eqb-true a 0x5E e)) (λ n m. rw (n, m))
 
 pub piece-length : (more : Bool) (a b c d : ℕ) → length (piece more a b c d) ≡ pieceLength more a
 unfolding piece pieceLength
