@@ -31,7 +31,7 @@ allZero [] = true
 allZero (b ∷ bs) = eqb b 0 && allZero bs
 
 -- nothing but zeros behind a `\` or a `^`
-abbrev pub bare : ℕ → ℕ → ℕ → Bool
+unfoldable pub bare : ℕ → ℕ → ℕ → Bool
 bare b c d = eqb b 0 && eqb c 0 && eqb d 0
 
 -- four bytes are a component; `\` only where it may stand, first

@@ -1,6 +1,6 @@
 -- The tests of a path, by the first byte of its components; and a path of one component.
 use mathlib.Core.Path.{_≡_, refl, sym, _∙_, ap}
-use mathlib.Core.Bool.{Bool, true, false, not, _&&_, _||_, cond}
+use mathlib.Core.Bool.{true, false, not, _&&_, _||_}
 use mathlib.Core.List.{List, [], _∷_}
 use Prim.Native.Nat.{ℕ, zero, suc, _+_, _*_, _≤_, _<_}
 use native.Mathlib.Omega.{arith}
@@ -8,7 +8,7 @@ use lib.Dec.{eqb}
 use lib.ListN.{length, getD, drop, drop-of-length-le}
 use borrow.Author.Tests.{eqb-true, eq-eqb, ne-eqb}
 use Rattle.pkg_length.specs.Refusal.{gives, refuses}
-use Rattle.name_object.specs.Component.{Component, root, up, seg, segOk, spellOne}
+use Rattle.name_object.specs.Component.{Component, seg, segOk, spellOne}
 use Rattle.name_object.specs.Memory.{nameOf, componentOf, components, pushed, pathOf}
 use Rattle.name_object.specs.declared.AmlName.{AmlName}
 use Rattle.name_object.proofs.Memory.{push-one}
