@@ -1,19 +1,18 @@
 -- Segments read at an offset: what each test of the code says of the definition. A segment is four characters, each given or refused in turn;
 -- n segments are one segment and the n - 1 behind it.
-use mathlib.Core.Path.{_≡_, refl, sym, _∙_}
+use mathlib.Core.Path.{_≡_, refl, sym, _∙_, ap}
 use mathlib.Core.Bool.{Bool, true, false, cond}
-use mathlib.Core.List.{List, _∷_}
-use Prim.Native.Nat.{ℕ, zero, suc, _+_, _-_, _≤_, _<_}
+use mathlib.Core.List.{List}
+use Prim.Native.Nat.{ℕ, zero, suc, _+_, _-_, _*_, _≤_, _<_}
 use native.Mathlib.Omega.{arith}
 use lib.Dec.{ltb, eqb}
 use lib.ListN.{length, getD}
 use borrow.Author.Tests.{lt-ltb, le-ltb, ltb-true, ne-eqb, eqb-true, eqb-false}
 use Rattle.pkg_length.specs.Refusal.{Answer, gives, refuses, andThen}
-use Rattle.pkg_length.proofs.Answers.{refuses-not, gives-same, then-gives, then-refuses}
+use Rattle.pkg_length.proofs.Answers.{refuses-not, gives-same, then-gives, then-refuses, then-then}
 use Rattle.name_object.specs.Component.{Component, seg, leadOk, charOk}
 use Rattle.name_object.specs.Name.{byteAt, char, segment, segments}
-use Rattle.name_object.specs.Inside.{segChar, segmentEnd, runOf}
-use Rattle.name_object.specs.declared.Run.{Run}
+use Rattle.name_object.specs.Inside.{segChar, segmentEnd, segmentsEnd}
 
 -- ## A byte, a character
 
@@ -164,32 +163,29 @@ seg-there xs p x w =
     )
 
 -- what follows n segments at p, whatever they are
-pub after : List ℕ → ℕ → ℕ → Answer Run → Answer Run
+pub after : List ℕ → ℕ → ℕ → Answer ℕ → Answer ℕ
 after xs p n next = andThen (segments xs p n) (λ cs. next)
 
-module _ (xs : List ℕ) (p : ℕ) (n : ℕ) (next : Answer Run) where
+module _ (xs : List ℕ) (p : ℕ) (n : ℕ) (next : Answer ℕ) where
   after-refuses : (k q : ℕ) → segment xs p ≡ refuses k q → after xs p (suc n) next ≡ refuses k q
   unfolding after segments
   after-refuses k q e = rw e
 
   after-gives : (c : Component) → segment xs p ≡ gives c → after xs p (suc n) next ≡ after xs (p + 4) n next
   unfolding after segments
-  after-gives c e = rw e (go (segments xs (p + 4) n))
-    where
-      go : (a : Answer (List Component)) → andThen (andThen a (λ cs. gives (c ∷ cs))) (λ cs. next) ≡ andThen a (λ cs. next)
-      go (gives cs) = refl
-      go (refuses k q) = refl
+  after-gives c e = rw e (then-then (segments xs (p + 4) n) _ _)
 
 -- the loop over n segments from `from` on, before segment i
 pub record Reached (xs : List ℕ) (from n at i : ℕ) : Type 0 where
   pub most : i ≤ n
   pub inside : at ≤ length xs
-  pub left : after xs at (n - i) (gives (record { from = from; count = n })) ≡ runOf xs from n
+  pub here : at ≡ from + 4 * i
+  pub left : after xs at (n - i) (gives (from + 4 * n)) ≡ segmentsEnd xs from n
 
 module _ (xs : List ℕ) (from n : ℕ) where
   pub reached-none : from ≤ length xs → Reached xs from n from 0
-  unfolding runOf after
-  reached-none h = let e : n - 0 ≡ n = omega arith in record { most = omega arith; inside = h; left = rw e }
+  unfolding segmentsEnd after
+  reached-none h = let e : n - 0 ≡ n = omega arith in record { most = omega arith; inside = h; here = omega arith; left = rw e }
 
   pub reached-more : (at i next : ℕ) → Reached xs from n at i → i < n → gives next ≡ segmentEnd xs at → Reached xs from n next (i + 1)
   unfolding segmentEnd
@@ -201,15 +197,19 @@ module _ (xs : List ℕ) (from n : ℕ) where
       record {
         most = omega arith;
         inside = omega (arith, w .inside);
+        here = omega (arith, r .here);
         left = rw (← e) (sym (after-gives xs at (n - (i + 1)) _ (t .0) (t .1)) ∙ rw s at (r .left));
       }
 
-  pub reached-stop : (at i k q : ℕ) → Reached xs from n at i → i < n → refuses k q ≡ segmentEnd xs at → refuses k q ≡ runOf xs from n
+  pub reached-stop : (at i k q : ℕ) → Reached xs from n at i → i < n → refuses k q ≡ segmentEnd xs at → refuses k q ≡ segmentsEnd xs from n
   unfolding segmentEnd
   reached-stop at i k q r l h =
       let s : n - i ≡ suc (n - (i + 1)) = omega arith in
       sym (after-refuses xs at (n - (i + 1)) _ k q (then-refuses (segment xs at) _ (sym h))) ∙ rw s at (r .left)
 
-  pub reached-end : (at i : ℕ) → Reached xs from n at i → n ≤ i → gives (record { from = from; count = n }) ≡ runOf xs from n
+  pub reached-end : (at i : ℕ) → Reached xs from n at i → n ≤ i → gives at ≡ segmentsEnd xs from n
   unfolding after segments
-  reached-end at i r l = let s : n - i ≡ 0 = omega arith in rw s at (r .left)
+  reached-end at i r l =
+      let s : n - i ≡ 0 = omega arith in
+      let e : at ≡ from + 4 * n = omega (arith, r .here, r .most) in
+      ap gives e ∙ rw s at (r .left)

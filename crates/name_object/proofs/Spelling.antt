@@ -11,14 +11,14 @@ use lib.ListN.{length, getD, take, drop, length-append, length-drop, take-append
 use lib.Seq.{drop-cons, drop-at, take-at, drop-drop, getD-drop, length-take-le}
 use borrow.Author.Tests.{eqb-true, eqb-false, ne-eqb, leb-true}
 use Rattle.pkg_length.specs.Refusal.{Answer, gives, refuses, andThen}
-use Rattle.pkg_length.proofs.Answers.{refuses-not, gives-same, then-gives}
+use Rattle.pkg_length.proofs.Answers.{never, unlike, refuses-not, gives-same, then-gives}
 use Rattle.name_object.specs.Component.{Component, root, up, seg, leadOk, charOk, segOk, fine}
-use Rattle.name_object.specs.Memory.{Named, nameOf, pathIn}
+use Rattle.name_object.specs.Memory.{Named, nameOf, pathIn, pathOk, told}
 use Rattle.name_object.specs.Name.{byteAt, segment, segments, runAt, namePath, carets, prefixOf, spelled, judged, nameString}
 use Rattle.name_object.specs.Grammar.{Segment, four, Segments, none, more, NamePath, null, dual, multi, one, Prefixed, plain, above, NameString, rooted, prefixed}
 use Rattle.name_object.specs.declared.Run.{Run}
 use Rattle.name_object.proofs.Reading.{byte-here, byte-was, seg-was, seg-there}
-use Rattle.name_object.proofs.Paths.{path-back, fine-later}
+use Rattle.name_object.proofs.Paths.{path-back, fine-later, told-is-path}
 use Rattle.name_object.proofs.Answers.{run, judged-whole}
 
 -- ## Bytes that stand at an offset
@@ -162,7 +162,7 @@ spelled-stands xs v h = go xs (eqb (getD xs 0 0) 0x5C) refl h
     go : (ys : List ℕ) (t : Bool) → eqb (getD ys 0 0) 0x5C ≡ t →
         andThen (namePath ys (length (cond t (root ∷ []) (carets ys)))) (λ n. gives (record { path = cond t (root ∷ []) (carets ys) ++ n .path; value = n .value })) ≡ gives v →
         Stands (NameString (v .path)) ys 0 (v .value)
-    go [] true e h = absurd (let z : _≡_ {A = Bool} false true = e in let y : _≡_ {A = ℕ} 0 1 = cc in omega arith)
+    go [] true e h = never e
     go (y ∷ ys) true e h =
         let t = then-gives (namePath (y ∷ ys) 1) _ h in
         let st = path-sound (y ∷ ys) 1 (t .0) (t .1) in
@@ -213,7 +213,7 @@ segs-complete (more {t = t} (four {a = a} {b = b} {c = c} {d = d} la cb cc′ cd
 
 -- a lead is none of the bytes that begin the other NamePaths, nor a prefix
 lead-not : (a k : ℕ) → leadOk a ≡ true → leadOk k ≡ false → eqb a k ≡ false
-lead-not a k h n = ne-eqb a k (λ e. let y : true ≡ false = sym h ∙ ap leadOk e ∙ n in let z : _≡_ {A = ℕ} 0 1 = cc in omega arith)
+lead-not a k h n = ne-eqb a k (unlike leadOk a k h n)
 
 no-lead : (leadOk 0x00 ≡ false) × (leadOk 0x2E ≡ false) × (leadOk 0x2F ≡ false) × (leadOk 0x5C ≡ false) × (leadOk 0x5E ≡ false)
 unfolding leadOk
@@ -410,5 +410,12 @@ unfolding fine
 string-fine (rooted k) = path-fine k
 string-fine (prefixed {cs = cs} k) = fine-later cs (prefixed-fine k)
 
+name-fine : (limit : ℕ) (xs : List ℕ) (v : Named ℕ) → nameString limit xs ≡ gives v → (fine true (v .path) ≡ true) × (length (v .path) ≤ limit)
+name-fine limit xs v h = let s = name-exactly limit xs v .0 h in (string-fine (s .spelling), s .fits)
+
 pub name-is-path : (limit : ℕ) (xs : List ℕ) (v : Named ℕ) → nameString limit xs ≡ gives v → pathIn limit (nameOf limit (v .path)) ≡ gives (v .path)
-name-is-path limit xs v h = let s = name-exactly limit xs v .0 h in path-back limit (v .path) (string-fine (s .spelling)) (s .fits)
+name-is-path limit xs v h = let f = name-fine limit xs v h in path-back limit (v .path) (f .0) (f .1)
+
+-- whatever the bytes, what name_string hands back passes the test of a path
+pub string-is-path : (limit : ℕ) (xs : List ℕ) → pathOk limit (told limit (nameString limit xs) .memory) ≡ true
+string-is-path limit xs = told-is-path limit (nameString limit xs) (name-fine limit xs)

@@ -1,6 +1,6 @@
 -- The components of a path, and the characters of a segment.
 use Prim.Native.Nat.{ℕ}
-use mathlib.Core.Bool.{Bool, true, false, cond}
+use mathlib.Core.Bool.{Bool, true, false, _&&_, _||_}
 use mathlib.Core.List.{List, [], _∷_, _++_}
 use lib.Dec.{leb, eqb}
 
@@ -16,26 +16,26 @@ componentLimit = 32
 
 -- A-Z or _
 unfoldable pub leadOk : ℕ → Bool
-leadOk b = cond (eqb b 0x5F) true (cond (leb 0x41 b) (leb b 0x5A) false)
+leadOk b = eqb b 0x5F || (leb 0x41 b && leb b 0x5A)
 
 -- 0-9
 unfoldable pub digitOk : ℕ → Bool
-digitOk b = cond (leb 0x30 b) (leb b 0x39) false
+digitOk b = leb 0x30 b && leb b 0x39
 
 -- a lead or a digit
 unfoldable pub charOk : ℕ → Bool
-charOk b = cond (leadOk b) true (digitOk b)
+charOk b = leadOk b || digitOk b
 
 -- a lead, then three of lead or digit
 unfoldable pub segOk : ℕ → ℕ → ℕ → ℕ → Bool
-segOk a b c d = cond (leadOk a) (cond (charOk b) (cond (charOk c) (charOk d) false) false) false
+segOk a b c d = leadOk a && charOk b && charOk c && charOk d
 
 -- components that make a path: `\` only first, segments of name characters
 unfoldable pub fine : Bool → List Component → Bool
 fine first [] = true
-fine first (root ∷ cs) = cond first (fine false cs) false
+fine first (root ∷ cs) = first && fine false cs
 fine first (up ∷ cs) = fine false cs
-fine first (seg a b c d ∷ cs) = cond (segOk a b c d) (fine false cs) false
+fine first (seg a b c d ∷ cs) = segOk a b c d && fine false cs
 
 -- the four bytes of a component: a segment, or 5C or 5E and zeros
 abbrev pub spellOne : Component → List ℕ

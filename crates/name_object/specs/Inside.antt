@@ -1,12 +1,13 @@
 -- What the functions inside promise one another. No public contract rests on these.
-use Prim.Native.Nat.{ℕ, zero, suc, _+_}
+use Prim.Native.Nat.{ℕ, zero, suc, _+_, _*_}
 use mathlib.Core.Bool.{Bool, cond}
-use mathlib.Core.List.{List, [], _∷_}
+use mathlib.Core.List.{List, [], _∷_, _++_}
 use lib.Dec.{eqb}
 use lib.ListN.{getD, drop}
 use Rattle.pkg_length.specs.Refusal.{Answer, gives, refused, andThen}
 use Rattle.name_object.specs.Component.{Component, seg, leadOk, charOk}
-use Rattle.name_object.specs.Name.{byteAt, segment, segments, runAt}
+use Rattle.name_object.specs.Memory.{Named}
+use Rattle.name_object.specs.Name.{byteAt, segment, segments, prefixOf}
 use Rattle.name_object.specs.declared.Cursor.{Cursor}
 use Rattle.name_object.specs.declared.Run.{Run}
 use Rattle.name_object.specs.declared.RunAnswer.{RunAnswer}
@@ -32,13 +33,14 @@ cut (suc n) s = seg (getD s 0 0) (getD s 1 0) (getD s 2 0) (getD s 3 0) ∷ cut 
 unfoldable pub segmentEnd : List ℕ → ℕ → Answer ℕ
 segmentEnd xs p = andThen (segment xs p) (λ c. gives (p + 4))
 
--- n segments that were read
-unfoldable pub runOf : List ℕ → ℕ → ℕ → Answer Run
-runOf xs p n = andThen (segments xs p n) (λ cs. gives (record { from = p; count = n }))
+-- the offset after n segments
+unfoldable pub segmentsEnd : List ℕ → ℕ → ℕ → Answer ℕ
+segmentsEnd xs p n = andThen (segments xs p n) (λ cs. gives (p + 4 * n))
 
--- the segments of a MultiNamePath, and of any NamePath
-unfoldable pub multiIn : List ℕ → ℕ → Answer Run
-multiIn xs p = andThen (byteAt xs (p + 1)) (λ n. runOf xs (p + 2) n)
+-- where segments start that the byte at p counts
+unfoldable pub countedAt : List ℕ → ℕ → Answer Run
+countedAt xs p = andThen (byteAt xs p) (λ n. gives (record { from = p + 1; count = n }))
 
-unfoldable pub runIn : List ℕ → ℕ → Answer Run
-runIn xs p = andThen (runAt xs p) (λ r. runOf xs (r .from) (r .count))
+-- the name whose n segments stand from p on, behind its prefix
+abbrev pub nameAt : List ℕ → ℕ → ℕ → Named ℕ
+nameAt xs p n = record { path = prefixOf xs ++ cut n (drop p xs); value = p + 4 * n }

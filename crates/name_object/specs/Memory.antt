@@ -1,6 +1,6 @@
 -- A path in memory: a count beside four bytes for each component, zero-filled. One definition writes it, one reads it or refuses it (26).
 use Prim.Native.Nat.{ℕ, zero, suc, _+_, _-_, _*_}
-use mathlib.Core.Bool.{Bool, true, false, cond}
+use mathlib.Core.Bool.{Bool, true, false, _&&_, cond}
 use mathlib.Core.List.{List, [], _∷_, _++_}
 use lib.Dec.{leb, eqb}
 use lib.ListN.{length, getD, drop, set, replicate}
@@ -28,27 +28,27 @@ pathOf name = components (name .count) (name .bytes)
 
 unfoldable pub allZero : List ℕ → Bool
 allZero [] = true
-allZero (b ∷ bs) = cond (eqb b 0) (allZero bs) false
+allZero (b ∷ bs) = eqb b 0 && allZero bs
 
 -- nothing but zeros behind a `\` or a `^`
 unfoldable pub bare : ℕ → ℕ → ℕ → Bool
-bare b c d = cond (eqb b 0) (cond (eqb c 0) (eqb d 0) false) false
+bare b c d = eqb b 0 && eqb c 0 && eqb d 0
 
 -- four bytes are a component; `\` only where it may stand, first
 unfoldable pub kindOk : Bool → ℕ → ℕ → ℕ → ℕ → Bool
 kindOk first a b c d =
-    cond (eqb a 0x5C) (cond first (bare b c d) false)
+    cond (eqb a 0x5C) (first && bare b c d)
     (cond (eqb a 0x5E) (bare b c d)
     (segOk a b c d))
 
 -- n components, the first of them first, and then nothing but zeros
 unfoldable pub bytesOk : Bool → ℕ → List ℕ → Bool
 bytesOk first zero bs = allZero bs
-bytesOk first (suc n) bs = cond (kindOk first (getD bs 0 0) (getD bs 1 0) (getD bs 2 0) (getD bs 3 0)) (bytesOk false n (drop 4 bs)) false
+bytesOk first (suc n) bs = kindOk first (getD bs 0 0) (getD bs 1 0) (getD bs 2 0) (getD bs 3 0) && bytesOk false n (drop 4 bs)
 
 -- memory is a path: at most `limit` components, each of a kind, a root only first, every spare byte zero
 unfoldable pub pathOk : ℕ → AmlName → Bool
-pathOk limit name = cond (leb (name .count) limit) (bytesOk true (name .count) (name .bytes)) false
+pathOk limit name = leb (name .count) limit && bytesOk true (name .count) (name .bytes)
 
 -- the path that memory holds, or 26
 unfoldable pub pathIn : ℕ → AmlName → Answer (List Component)

@@ -5,6 +5,7 @@ ghost use Prim.Native.Nat.{_<_, _≤_};
 ghost use Rattle.name_object.specs.Component.{componentLimit};
 ghost use Rattle.name_object.specs.Memory.{nameOf, pushed, popped};
 use crate::AmlName;
+use crate::PATH_BYTES;
 
 // The empty path, all zeros: what every path begins as, and what stands beside a refusal.
 pub fn empty() -> AmlName
@@ -12,7 +13,7 @@ pub fn empty() -> AmlName
 {
     AmlName {
         count: 0,
-        bytes: [0; 128],
+        bytes: [0; PATH_BYTES],
     }
 }
 

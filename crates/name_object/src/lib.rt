@@ -1,16 +1,21 @@
 // Names in byte code: the name part of name_object.rs. Any bytes become a path or a numbered refusal.
 ghost use mathlib.Core.Path.{_≡_};
-ghost use mathlib.Core.List.{_++_};
 ghost use Prim.Native.Nat.{_+_, _*_, _<_, _≤_};
-ghost use lib.ListN.{length, drop};
+ghost use lib.ListN.{length};
 ghost use Rattle.pkg_length.specs.Refusal.{refused};
 ghost use Rattle.name_object.specs.Component.{componentLimit, leadOk, digitOk, charOk};
 ghost use Rattle.name_object.specs.Memory.{nameOf, told};
-ghost use Rattle.name_object.specs.Name.{nameTold, prefixOf, nameString};
-ghost use Rattle.name_object.specs.Inside.{segChar, cut, cursorSaid, runSaid, segmentEnd, runOf, multiIn, runIn};
+ghost use Rattle.name_object.specs.Name.{nameTold, prefixOf, runAt, judged, nameString};
+ghost use Rattle.name_object.specs.Inside.{segChar, nameAt, cursorSaid, runSaid, segmentEnd, segmentsEnd, countedAt};
 use pkg_length::AmlError;
 
 pub mod inner;
+
+// A path has at most so many components.
+pub const COMPONENTS: usize = 32;
+
+// Four bytes for each.
+pub const PATH_BYTES: usize = 4 * COMPONENTS;
 
 const NULL_NAME: u8 = 0x00;
 
@@ -28,7 +33,7 @@ pub struct NameSeg(pub [u8; 4]);
 // A path: how many components, and four bytes for each: a segment, or 5C or 5E and zeros. Spare bytes are zero, so equal paths are equal values.
 pub struct AmlName {
     pub count: usize,
-    pub bytes: [u8; 128],
+    pub bytes: [u8; PATH_BYTES],
 }
 
 // The bytes used, or why there is no path.
@@ -63,31 +68,19 @@ enum RunAnswer {
 pub fn is_lead_name_char(byte: u8) -> bool
     ensures { λ r. ⌜ r ≡ leadOk byte ⌝ }
 {
-    if byte == b'_' {
-        return true;
-    }
-    if byte < b'A' {
-        return false;
-    }
-    byte <= b'Z'
+    (byte == b'_') | ((b'A' <= byte) & (byte <= b'Z'))
 }
 
 pub fn is_digit_char(byte: u8) -> bool
     ensures { λ r. ⌜ r ≡ digitOk byte ⌝ }
 {
-    if byte < b'0' {
-        return false;
-    }
-    byte <= b'9'
+    (b'0' <= byte) & (byte <= b'9')
 }
 
 pub fn is_name_char(byte: u8) -> bool
     ensures { λ r. ⌜ r ≡ charOk byte ⌝ }
 {
-    if is_lead_name_char(byte) {
-        return true;
-    }
-    is_digit_char(byte)
+    is_lead_name_char(byte) | is_digit_char(byte)
 }
 
 // Character k of a segment: the first is a lead.
@@ -120,10 +113,10 @@ fn name_seg(input: &[u8], at: usize) -> Cursor
     Cursor::At(at + 4)
 }
 
-// n segments from `from` on: all are read, however many a path may hold.
-fn name_segs(input: &[u8], from: usize, n: usize) -> RunAnswer
-    requires { ⌜ (from ≤ length (now input)) × (n ≤ 255) ⌝ }
-    ensures { λ r. ⌜ runSaid r ≡ runOf (now (input .entry)) from n ⌝ }
+// n segments from `from` on: all are read, however many a path may hold. The offset after them.
+fn name_segs(input: &[u8], from: usize, n: usize) -> Cursor
+    requires { ⌜ from ≤ length (now input) ⌝ }
+    ensures { λ r. ⌜ cursorSaid r ≡ segmentsEnd (now (input .entry)) from n ⌝ }
 {
     let mut at = from;
     let mut done = 0;
@@ -134,59 +127,49 @@ fn name_segs(input: &[u8], from: usize, n: usize) -> RunAnswer
                 done += 1;
             }
             Cursor::Refused(e) => {
-                return RunAnswer::Refused(e);
+                return Cursor::Refused(e);
             }
         }
     }
-    RunAnswer::Segments(Run { from, count: n })
+    Cursor::At(at)
 }
 
-// NullName := 0x00
-fn null_name(input: &[u8], at: usize) -> RunAnswer
-    requires { ⌜ at < length (now input) ⌝ }
-    ensures { λ r. ⌜ runSaid r ≡ runOf (now (input .entry)) (at + 1) 0 ⌝ }
-{
-    RunAnswer::Segments(Run {
-        from: at + 1,
-        count: 0,
-    })
-}
-
-// DualNamePath := 0x2e NameSeg NameSeg
-fn dual_name_path(input: &[u8], at: usize) -> RunAnswer
-    requires { ⌜ at < length (now input) ⌝ }
-    ensures { λ r. ⌜ runSaid r ≡ runOf (now (input .entry)) (at + 1) 2 ⌝ }
-{
-    name_segs(input, at + 1, 2)
-}
-
-// MultiNamePath := 0x2f ByteData{SegCount} NameSeg(SegCount)
-fn multi_name_path(input: &[u8], at: usize) -> RunAnswer
-    requires { ⌜ at < length (now input) ⌝ }
-    ensures { λ r. ⌜ runSaid r ≡ multiIn (now (input .entry)) at ⌝ }
-{
-    let count_at = at + 1;
-    if input.len() <= count_at {
-        return RunAnswer::Refused(AmlError::UnexpectedEndOfStream(input.len()));
-    }
-    name_segs(input, count_at + 1, input[count_at] as usize)
-}
-
-// NamePath := NullName | DualNamePath | MultiNamePath | NameSeg
+// Where the segments of a NamePath start, and how many there are. NamePath := NullName | DualNamePath | MultiNamePath | NameSeg;
+// NullName := 0x00; DualNamePath := 0x2e NameSeg NameSeg; MultiNamePath := 0x2f ByteData{SegCount} NameSeg(SegCount)
 fn name_path(input: &[u8], at: usize) -> RunAnswer
     requires { ⌜ at ≤ length (now input) ⌝ }
-    ensures { λ r. ⌜ runSaid r ≡ runIn (now (input .entry)) at ⌝ }
+    ensures { λ r. ⌜ runSaid r ≡ runAt (now (input .entry)) at ⌝ }
 {
     if input.len() <= at {
         return RunAnswer::Refused(AmlError::UnexpectedEndOfStream(input.len()));
     }
     let b = input[at];
     match b {
-        NULL_NAME => null_name(input, at),
-        DUAL_NAME_PREFIX => dual_name_path(input, at),
-        MULTI_NAME_PREFIX => multi_name_path(input, at),
-        _ => name_segs(input, at, 1),
+        NULL_NAME => RunAnswer::Segments(Run {
+            from: at + 1,
+            count: 0,
+        }),
+        DUAL_NAME_PREFIX => RunAnswer::Segments(Run {
+            from: at + 1,
+            count: 2,
+        }),
+        MULTI_NAME_PREFIX => multi_name_path(input, at + 1),
+        _ => RunAnswer::Segments(Run { from: at, count: 1 }),
     }
+}
+
+// The count byte of a MultiNamePath, and its segments behind it.
+fn multi_name_path(input: &[u8], at: usize) -> RunAnswer
+    requires { ⌜ at ≤ length (now input) ⌝ }
+    ensures { λ r. ⌜ runSaid r ≡ countedAt (now (input .entry)) at ⌝ }
+{
+    if input.len() <= at {
+        return RunAnswer::Refused(AmlError::UnexpectedEndOfStream(input.len()));
+    }
+    RunAnswer::Segments(Run {
+        from: at + 1,
+        count: input[at] as usize,
+    })
 }
 
 // The bytes before the NamePath: one `\`, or the `^`s.
@@ -213,7 +196,7 @@ fn prefixes(input: &[u8]) -> usize
 // The path of `pre` bytes of prefix and the n segments from `from` on.
 fn build(input: &[u8], pre: usize, from: usize, n: usize) -> AmlName
     requires { ⌜ (pre ≡ length (prefixOf (now input))) × (pre ≤ length (now input)) × (from + 4 * n ≤ length (now input)) × (pre + n ≤ componentLimit) ⌝ }
-    ensures { λ r. ⌜ r ≡ nameOf componentLimit (prefixOf (now (input .entry)) ++ cut n (drop from (now (input .entry)))) ⌝ }
+    ensures { λ r. ⌜ r ≡ nameOf componentLimit (nameAt (now (input .entry)) from n .path) ⌝ }
 {
     let mut name = inner::empty();
     let mut i = 0;
@@ -239,6 +222,23 @@ fn refuse(e: AmlError) -> NameAnswer
     }
 }
 
+// The name of `pre` bytes of prefix and the n segments from `from` on, all of which were read: how many components it has decides.
+fn named(input: &[u8], pre: usize, from: usize, n: usize) -> NameAnswer
+    requires { ⌜ (pre ≡ length (prefixOf (now input))) × (pre ≤ length (now input)) × (from + 4 * n ≤ length (now input)) ⌝ }
+    ensures { λ r. ⌜ nameTold r ≡ told componentLimit (judged componentLimit (nameAt (now (input .entry)) from n)) ⌝ }
+{
+    if pre + n == 0 {
+        return refuse(AmlError::EmptyNamesAreInvalid);
+    }
+    if COMPONENTS < pre + n {
+        return refuse(AmlError::TooManyComponents);
+    }
+    NameAnswer {
+        name: build(input, pre, from, n),
+        said: NameSaid::Used(from + 4 * n),
+    }
+}
+
 // NameString := <RootChar('\\') NamePath> | <PrefixPath NamePath>; PrefixPath := Nothing | <'^' PrefixPath>
 pub fn name_string(input: &[u8]) -> NameAnswer
     ensures { λ r. ⌜ nameTold r ≡ told componentLimit (nameString componentLimit (now (input .entry))) ⌝ }
@@ -249,15 +249,9 @@ pub fn name_string(input: &[u8]) -> NameAnswer
         RunAnswer::Segments(run) => {
             let from = run.from;
             let n = run.count;
-            if pre + n == 0 {
-                return refuse(AmlError::EmptyNamesAreInvalid);
-            }
-            if 32 < pre + n {
-                return refuse(AmlError::TooManyComponents);
-            }
-            NameAnswer {
-                name: build(input, pre, from, n),
-                said: NameSaid::Used(from + 4 * n),
+            match name_segs(input, from, n) {
+                Cursor::Refused(e) => refuse(e),
+                Cursor::At(_) => named(input, pre, from, n),
             }
         }
     }

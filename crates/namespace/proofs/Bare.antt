@@ -11,7 +11,8 @@ use borrow.Author.Tests.{eqb-true}
 use Rattle.name_object.specs.Component.{Component, root, up, seg, leadOk, segOk, fine, spellOne, componentLimit}
 use Rattle.name_object.specs.Memory.{nameOf, kindOk, componentOf, components, bytesOk, pathOk, pathOf, pushed, popped}
 use Rattle.name_object.specs.declared.AmlName.{AmlName}
-use Rattle.name_object.proofs.Paths.{both, path-fine, name-whole}
+use Rattle.pkg_length.proofs.Answers.{halves}
+use Rattle.name_object.proofs.Paths.{path-fine, name-whole, seg-lead}
 use Rattle.name_object.proofs.Memory.{push-one}
 use Rattle.path.proofs.Walks.{length-path, path-byte}
 use Rattle.name_object.proofs.Memory.{pop-last}
@@ -49,7 +50,7 @@ one-kind a b c d h = go (eqb a 0x5C) (eqb a 0x5E) refl refl h
         → leadOk a ≡ oneSegment (cond s root (cond t up (seg a b c d)) ∷ [])
     go true t p q h = ap leadOk (eqb-true a 0x5C p) ∙ lead-root
     go false true p q h = ap leadOk (eqb-true a 0x5E q) ∙ lead-up
-    go false false p q h = unfold segOk in both (leadOk a) _ h .0
+    go false false p q h = seg-lead a b c d h
 
 pub bare-one : (name : AmlName) → pathOk componentLimit name ≡ true → name .count ≡ 1 → leadOk (getD (name .bytes) 0 0) ≡ oneSegment (pathOf name)
 bare-one name h e = one-kind _ _ _ _ first ∙ ap oneSegment (sym alone)
@@ -58,7 +59,7 @@ bare-one name h e = one-kind _ _ _ _ first ∙ ap oneSegment (sym alone)
     alone = unfold pathOf components in rw e
 
     first : kindOk true (getD (name .bytes) 0 0) (getD (name .bytes) 1 0) (getD (name .bytes) 2 0) (getD (name .bytes) 3 0) ≡ true
-    first = unfold pathOk bytesOk in both (kindOk true (getD (name .bytes) 0 0) (getD (name .bytes) 1 0) (getD (name .bytes) 2 0) (getD (name .bytes) 3 0)) _ (rw e at (both (leb (name .count) componentLimit) _ h .1)) .0
+    first = unfold pathOk bytesOk in halves (kindOk true (getD (name .bytes) 0 0) (getD (name .bytes) 1 0) (getD (name .bytes) 2 0) (getD (name .bytes) 3 0)) _ (rw e at (halves (leb (name .count) componentLimit) _ h .1)) .0
 
 -- the segment itself
 module _ (name : AmlName) (hb : length (name .bytes) ≡ 128) (h : Bare componentLimit name) where
@@ -67,7 +68,7 @@ module _ (name : AmlName) (hb : length (name .bytes) ≡ 128) (h : Bare componen
   view [] b f = clash (sym b)
   view (root ∷ cs) b f = clash (sym b)
   view (up ∷ cs) b f = clash (sym b)
-  view (seg p q r s ∷ []) b f = (refl, record { a = p; b = q; c = r; d = s; is = refl; ok = both (segOk p q r s) true f .0 }, refl)
+  view (seg p q r s ∷ []) b f = (refl, record { a = p; b = q; c = r; d = s; is = refl; ok = halves (segOk p q r s) true f .0 }, refl)
   view (seg p q r s ∷ x ∷ cs) b f = clash (sym b)
 
   seen : (length (pathOf name) ≡ 1) × SegAt (firstOf (pathOf name)) × (firstOf (pathOf name) ≡ getD (pathOf name) 0 up)

@@ -9,12 +9,13 @@ use lib.Dec.{ltb}
 use lib.ListN.{length, take, getD, set}
 use lib.Seq.{take-suc, take-suc-set, take-all}
 use borrow.Author.Tests.{ltb-true, ltb-false}
+use Rattle.pkg_length.proofs.Answers.{halves}
 use Rattle.pkg_length.specs.Refusal.{Answer, gives, refuses, refused, andThen}
 use Rattle.pkg_length.specs.declared.AmlError.{AmlError}
 use Rattle.name_object.specs.Component.{Component, root, up, seg, segOk, fine, spellOne, componentLimit}
 use Rattle.name_object.specs.Memory.{told, nameOf, pathOk, pathOf, pathIn}
 use Rattle.name_object.specs.declared.AmlName.{AmlName}
-use Rattle.name_object.proofs.Paths.{both, path-fine, fine-path}
+use Rattle.name_object.proofs.Paths.{path-fine, fine-path}
 use Rattle.path.specs.Normal.{absolute, isNormal, normal, resolved, alone, pathTold}
 use Rattle.path.specs.declared.PathSaid.{PathSaid}
 use Rattle.path.specs.declared.PathAnswer.{PathAnswer}
@@ -60,8 +61,8 @@ unfolding fine
 segs-at [] i f n h = absurd (omega arith)
 segs-at (root ∷ es) i f n h = clash (sym f)
 segs-at (up ∷ es) i f n h = clash (sym n)
-segs-at (seg a b c d ∷ es) zero f n h = record { a = a; b = b; c = c; d = d; is = refl; ok = both (segOk a b c d) (fine false es) f .0 }
-segs-at (seg a b c d ∷ es) (suc i) f n h = segs-at es i (both (segOk a b c d) (fine false es) f .1) n (omega arith)
+segs-at (seg a b c d ∷ es) zero f n h = record { a = a; b = b; c = c; d = d; is = refl; ok = halves (segOk a b c d) (fine false es) f .0 }
+segs-at (seg a b c d ∷ es) (suc i) f n h = segs-at es i (halves (segOk a b c d) (fine false es) f .1) n (omega arith)
 
 module _ (limit : ℕ) (cs : List Component) (k : Kept limit cs) where
   pub seg-at : (i : ℕ) → 0 < i → i < length cs → SegAt (getD cs i up)

@@ -1,93 +1,66 @@
--- What a caller learns from an answer, and the parent.
+-- What a caller learns from an answer, and the parent, which is made of one.
 use mathlib.Core.Path.{_≡_, refl, sym, _∙_, ap}
-use mathlib.Core.Bool.{Bool, true, false, cond}
-use mathlib.Core.List.{List, [], _∷_, _++_}
-use Prim.Native.Nat.{ℕ, _-_, _≤_, _<_}
+use mathlib.Core.Bool.{false, cond}
+use mathlib.Core.List.{List, [], _∷_, _++_, dropLast}
+use Prim.Native.Nat.{ℕ, _+_, _≤_, _<_}
 use native.Mathlib.Omega.{arith}
-use lib.ListN.{length, take, length-append}
-use lib.Seq.{take-at}
+use lib.ListN.{length, length-append}
 use Rattle.pkg_length.specs.Refusal.{Answer, gives, refuses, refused, andThen}
 use Rattle.pkg_length.specs.declared.AmlError.{AmlError}
-use Rattle.name_object.specs.Component.{Component, root, up, seg, fine}
-use Rattle.name_object.specs.Memory.{nameOf, pathOk, pathOf, pathIn, Told, told}
+use Rattle.pkg_length.proofs.Answers.{wrong, refuses-not, refuses-as}
+use Rattle.name_object.specs.Component.{Component}
+use Rattle.name_object.specs.Memory.{nameOf, popped, pathIn, Told, told}
 use Rattle.name_object.specs.declared.AmlName.{AmlName}
-use Rattle.name_object.proofs.Paths.{path-fine}
+use Rattle.name_object.proofs.Memory.{one-view, pop-one}
 use Rattle.path.specs.declared.PathAnswer.{PathAnswer}
 use Rattle.path.specs.declared.PathSaid.{PathSaid}
-use Rattle.path.specs.Normal.{step, walk, upright, limited, normal, top, parentOf, alone, pathSaid, pathTold}
-use Rattle.path.specs.Inside.{standing, segmentLast}
-use Rattle.path.proofs.Basics.{wrong, clash, same-given}
-use Rattle.path.proofs.Walks.{normal-fine, normal-done, normal-stop, limited-in, length-upright}
+use Rattle.path.specs.Normal.{normal, top, parentOf, alone, pathSaid, pathTold}
 
 -- an answer says Done where there is a path, and has it in memory
 pub said-done : (limit : ℕ) (a : Answer (List Component)) (r : PathAnswer) → pathTold r ≡ told limit (alone a) → r .said ≡ PathSaid.Done →
     (cs : List Component) × (a ≡ gives cs) × (r .name ≡ nameOf limit cs)
 said-done limit (gives cs) r h d = (cs, refl, ap (λ (t : Told (Unit {0})). t .memory) h)
-said-done limit (refuses n p) r h d = clash (sym (sym (ap pathSaid d) ∙ ap (λ (t : Told (Unit {0})). t .said) h))
-
-same-refusal : {A : Type 0} {n p m q : ℕ} → _≡_ {A = Answer (Unit {0})} (refuses n p) (refuses m q) → _≡_ {A = Answer A} (refuses n p) (refuses m q)
-same-refusal {A} {n} {p} {m} {q} h = let e : n ≡ m = cc in let f : p ≡ q = cc in λ i. refuses (e i) (f i)
+said-done limit (refuses n p) r h d = refuses-not (sym (sym (ap pathSaid d) ∙ ap (λ (t : Told (Unit {0})). t .said) h))
 
 -- and else the refusal's number and place
 pub said-refused : (limit : ℕ) (a : Answer (List Component)) (r : PathAnswer) (e : AmlError) → pathTold r ≡ told limit (alone a) → r .said ≡ PathSaid.Refused e → refused e ≡ a
-said-refused limit (gives cs) r e h d = clash (sym (ap pathSaid d) ∙ ap (λ (t : Told (Unit {0})). t .said) h)
-said-refused limit (refuses n p) r e h d = same-refusal (sym (ap pathSaid d) ∙ ap (λ (t : Told (Unit {0})). t .said) h)
+said-refused limit (gives cs) r e h d = refuses-not (sym (ap pathSaid d) ∙ ap (λ (t : Told (Unit {0})). t .said) h)
+said-refused limit (refuses n p) r e h d = refuses-as (sym (ap pathSaid d) ∙ ap (λ (t : Told (Unit {0})). t .said) h)
 
--- a path that was normalised is a path
-pub norm-fine : (limit : ℕ) (name : AmlName) (cs : List Component) → andThen (pathIn limit name) (normal limit) ≡ gives cs → (fine true cs ≡ true) × (length cs ≤ limit)
-unfolding pathIn
-norm-fine limit name cs h = go (pathOk limit name) refl h
-  where
-    go : (t : Bool) → pathOk limit name ≡ t → andThen (cond t (gives (pathOf name)) (refuses 26 0)) (normal limit) ≡ gives cs → (fine true cs ≡ true) × (length cs ≤ limit)
-    go true e h = normal-fine limit (pathOf name) cs (path-fine limit name e .0) h
-    go false e h = clash h
+-- ## The parent
 
-pub top-some : (cs : List Component) → top cs ≡ false → 0 < length cs
+top-some : (cs : List Component) → top cs ≡ false → 0 < length cs
 top-some [] h = wrong refl h
 top-some (x ∷ cs) h = omega arith
 
--- the parent, from what stands: one step up
-top-last : (cs : List Component) (a b c d : ℕ) → top (cs ++ (seg a b c d ∷ [])) ≡ false
-top-last [] a b c d = refl
-top-last (root ∷ []) a b c d = refl
-top-last (root ∷ x ∷ cs) a b c d = refl
-top-last (up ∷ cs) a b c d = refl
-top-last (seg p q r s ∷ cs) a b c d = refl
+-- components, and the last of them
+pub split-last : (cs : List Component) → top cs ≡ false → (x : Component) × (cs ≡ dropLast cs ++ (x ∷ []))
+split-last cs t = go cs (top-some cs t)
+  where
+    go : (cs : List Component) → 0 < length cs → (x : Component) × (cs ≡ dropLast cs ++ (x ∷ []))
+    go [] h = absurd (omega arith)
+    go (a ∷ []) h = (a, refl)
+    go (a ∷ b ∷ cs) h = let r = go (b ∷ cs) (omega arith) in (r .0, ap (λ (l : List Component). a ∷ l) (r .1))
 
-less-one : (cs : List Component) (x : Component) → take (length (cs ++ (x ∷ [])) - 1) (cs ++ (x ∷ [])) ≡ cs
-less-one cs x =
-    let n : length cs ≡ length (cs ++ (x ∷ [])) - 1 = omega (arith, length-append cs (x ∷ [])) in
-    take-at cs (x ∷ []) (length (cs ++ (x ∷ [])) - 1) n
+pub length-last : (cs : List Component) → top cs ≡ false → length cs ≡ length (dropLast cs) + 1
+length-last cs t = let s = split-last cs t in ap length (s .1) ∙ length-append (dropLast cs) (s .0 ∷ [])
 
-parent-as : (limit : ℕ) (cs ns : List Component) → normal limit cs ≡ gives ns → parentOf limit cs ≡ cond (top ns) (refuses 12 0) (gives (take (length ns - 1) ns))
+-- the normal form decides, whether memory held a path or not
+abbrev pub parentBy : Answer (List Component) → Answer (List Component)
+parentBy a = andThen a (λ ns. cond (top ns) (refuses 12 0) (gives (dropLast ns)))
+
+pub parent-by : (limit : ℕ) (name : AmlName) {a : Answer (List Component)} → andThen (pathIn limit name) (normal limit) ≡ a → parentBy a ≡ andThen (pathIn limit name) (parentOf limit)
 unfolding parentOf
-parent-as limit cs ns e = rw e
+parent-by limit name e = rw (sym e) (go (pathIn limit name))
+  where
+    go : (p : Answer (List Component)) → parentBy (andThen p (normal limit)) ≡ andThen p (λ cs. parentBy (normal limit cs))
+    go (gives cs) = refl
+    go (refuses n p) = refl
 
-stood : (limit : ℕ) (cs done : List Component) → walk (gives []) cs ≡ gives done → length done ≤ limit → normal limit cs ≡ gives (upright done)
-stood limit cs done e l = sym (normal-done limit cs done e) ∙ limited-in limit (upright done) (omega (arith, length-upright done))
-
-module _ (limit : ℕ) (cs : List Component) where
-  pub parent-stop : (n p : ℕ) → walk (gives []) cs ≡ refuses n p → refuses n p ≡ parentOf limit cs
-  unfolding parentOf
-  parent-stop n p e = rw (sym (normal-stop limit cs n p e))
-
-  pub parent-down : (done less : List Component) → walk (gives []) cs ≡ gives done → length done ≤ limit → step (gives done) up ≡ gives less → limited limit (upright less) ≡ parentOf limit cs
-  unfolding step upright
-  parent-down [] less e l s = clash s
-  parent-down (root ∷ done) less e l s = clash s
-  parent-down (up ∷ done) less e l s = clash s
-  parent-down (seg a b c d ∷ done) less e l s =
-      let q : done ≡ less = same-given s in
-      ap (λ (x : List Component). limited limit (upright x)) (sym q)
-      ∙ limited-in limit (upright done) (omega (arith, length-upright done))
-      ∙ ap (λ (x : List Component). gives x) (sym (less-one (upright done) (seg a b c d)))
-      ∙ ap (λ (t : Bool). cond t (refuses 12 0) (gives (take (length (upright done ++ (seg a b c d ∷ [])) - 1) (upright done ++ (seg a b c d ∷ []))))) (sym (top-last (upright done) a b c d))
-      ∙ sym (parent-as limit cs (upright done ++ (seg a b c d ∷ [])) (stood limit cs (seg a b c d ∷ done) e l))
-
-  pub parent-top : (done : List Component) → walk (gives []) cs ≡ gives done → length done ≤ limit → standing done ≡ true → segmentLast done ≡ false → refuses 12 0 ≡ parentOf limit cs
-  unfolding standing upright
-  parent-top [] e l g h = sym (parent-as limit cs [] (stood limit cs [] e l))
-  parent-top (root ∷ []) e l g h = sym (parent-as limit cs (root ∷ []) (stood limit cs (root ∷ []) e l))
-  parent-top (root ∷ x ∷ done) e l g h = wrong refl (sym g)
-  parent-top (up ∷ done) e l g h = wrong refl (sym g)
-  parent-top (seg a b c d ∷ done) e l g h = wrong refl h
+-- in memory, the last component goes
+pub parent-memory : (limit : ℕ) (ns : List Component) → top ns ≡ false → length ns ≤ limit → popped (nameOf limit ns) ≡ nameOf limit (dropLast ns)
+parent-memory limit ns t l =
+    let s = split-last ns t in
+    let v = one-view (s .0) in
+    ap (λ (cs : List Component). popped (nameOf limit cs)) (s .1)
+    ∙ pop-one limit (dropLast ns) (s .0) (v .0) (v .1) (v .2) (v .3) (omega (arith, length-last ns t)) (v .4)

@@ -6,6 +6,7 @@ pub mod Climbs
 pub mod Flags
 pub mod Readings
 pub mod Writings
-pub mod Texts
 pub mod Answers
 pub mod Laws
+pub mod Texts
+pub mod Given

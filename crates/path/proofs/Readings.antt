@@ -4,28 +4,22 @@ use mathlib.Core.Bool.{Bool, true, false, cond}
 use mathlib.Core.List.{List, [], _∷_, _++_, append-assoc}
 use Prim.Native.Nat.{ℕ, suc, _+_, _-_, _≤_, _<_}
 use native.Mathlib.Omega.{arith}
+use lib.Dec.{eqb}
 use lib.ListN.{length, getD, set, drop, length-append, drop-of-length-le}
 use lib.Seq.{drop-cons}
 use borrow.Author.Tests.{eq-eqb, ne-eqb, lt-ltb, le-ltb}
 use Rattle.pkg_length.specs.Refusal.{Answer, gives, refuses, andThen}
-use Rattle.name_object.specs.Component.{Component, root, up, leadOk, charOk, spellOne, componentLimit}
-use Rattle.name_object.specs.Memory.{zeros}
+use Rattle.name_object.specs.Component.{Component, root, up, leadOk, charOk, spellOne}
 use Rattle.path.specs.Normal.{limited}
-use Rattle.path.specs.Text.{Place, before, inside, padded, consed, reading, afterRoot, textPath, fromText}
-use Rattle.path.specs.Inside.{shown, placed, placedChar, after, Held, OnWay, Ended, Turns}
+use Rattle.path.specs.Text.{before, inside, padded, consed, reading, afterRoot, textPath, fromText}
+use Rattle.path.specs.Inside.{shown, placed, placedChar, rootOf, after, Between, Within, OnWay, Ended, Turns}
 use Rattle.path.specs.declared.text.Reading.{Reading}
 use Rattle.path.specs.declared.text.Turn.{Turn}
 use Rattle.path.specs.declared.text.PartsEnd.{PartsEnd}
-use Rattle.path.proofs.Shown.{shown-none, shown-push, shown-char}
+use Rattle.path.proofs.Shown.{shown-push, shown-char, length-one}
 
-after-one : (done : List Component) (c : Component) (r : Answer (List Component)) → after (done ++ (c ∷ [])) r ≡ after done (consed c r)
-after-one done c (gives cs) = ap (λ (l : List Component). gives l) (append-assoc done (c ∷ []) cs)
-after-one done c (refuses n p) = refl
+-- ## How the definition reads a byte
 
-length-one : (cs : List Component) (x : Component) → length (cs ++ (x ∷ [])) ≡ length cs + 1
-length-one cs x = length-append cs (x ∷ [])
-
--- how a byte is read
 module _ (i b : ℕ) (s : List ℕ) where
   pub read-up : b ≡ 0x5E → reading before i (b ∷ s) ≡ consed up (reading before (suc i) s)
   unfolding reading
@@ -39,28 +33,32 @@ module _ (i b : ℕ) (s : List ℕ) where
   unfolding reading
   read-wrong n h = rw (ne-eqb b 0x5E n, h)
 
-  pub read-dot : (q : ℕ) (bs : List ℕ) → b ≡ 0x2E → reading (inside q bs) i (b ∷ s) ≡ consed (padded bs) (reading before (suc i) s)
-  unfolding reading
-  read-dot q bs e = rw (eq-eqb b 0x2E e)
+  module _ (q : ℕ) (bs : List ℕ) where
+    pub read-dot : b ≡ 0x2E → reading (inside q bs) i (b ∷ s) ≡ consed (padded bs) (reading before (suc i) s)
+    unfolding reading
+    read-dot e = rw (eq-eqb b 0x2E e)
 
-  pub read-char : (q : ℕ) (bs : List ℕ) → (b ≡ 0x2E → ⊥) → length bs < 4 → charOk b ≡ true → reading (inside q bs) i (b ∷ s) ≡ reading (inside q (bs ++ (b ∷ []))) (suc i) s
-  unfolding reading
-  read-char q bs n l h = rw (ne-eqb b 0x2E n, h, lt-ltb (length bs) 4 l)
+    pub read-char : (b ≡ 0x2E → ⊥) → length bs < 4 → charOk b ≡ true → reading (inside q bs) i (b ∷ s) ≡ reading (inside q (bs ++ (b ∷ []))) (suc i) s
+    unfolding reading
+    read-char n l h = rw (ne-eqb b 0x2E n, h, lt-ltb (length bs) 4 l)
 
-  read-none : (q : ℕ) (bs : List ℕ) → (b ≡ 0x2E → ⊥) → charOk b ≡ false → reading (inside q bs) i (b ∷ s) ≡ refuses 8 q
-  unfolding reading
-  read-none q bs n h = rw (ne-eqb b 0x2E n, h)
+    read-none : (b ≡ 0x2E → ⊥) → charOk b ≡ false → reading (inside q bs) i (b ∷ s) ≡ refuses 8 q
+    unfolding reading
+    read-none n h = rw (ne-eqb b 0x2E n, h)
 
-  read-fifth : (q : ℕ) (bs : List ℕ) → (b ≡ 0x2E → ⊥) → 4 ≤ length bs → reading (inside q bs) i (b ∷ s) ≡ refuses 8 q
-  unfolding reading
-  read-fifth q bs n l = rw (ne-eqb b 0x2E n, le-ltb (length bs) 4 l) (go (charOk b))
-    where
-      go : (t : Bool) → _≡_ {A = Answer (List Component)} (cond t (refuses 8 q) (refuses 8 q)) (refuses 8 q)
-      go true = refl
-      go false = refl
+    read-fifth : (b ≡ 0x2E → ⊥) → 4 ≤ length bs → reading (inside q bs) i (b ∷ s) ≡ refuses 8 q
+    unfolding reading
+    read-fifth n l = rw (ne-eqb b 0x2E n, le-ltb (length bs) 4 l) (go (charOk b))
+      where
+        go : (t : Bool) → _≡_ {A = Answer (List Component)} (cond t (refuses 8 q) (refuses 8 q)) (refuses 8 q)
+        go true = refl
+        go false = refl
 
-length-some : (bs : List ℕ) → 0 < length bs → length bs ≡ 0 → ⊥
-length-some bs h e = omega arith
+-- ## How the reader in memory goes on
+
+after-one : (done : List Component) (c : Component) (r : Answer (List Component)) → after (done ++ (c ∷ [])) r ≡ after done (consed c r)
+after-one done c (gives cs) = ap (λ (l : List Component). gives l) (append-assoc done (c ∷ []) cs)
+after-one done c (refuses n p) = refl
 
 -- a character more
 padded-more : (bs : List ℕ) (b : ℕ) → 0 < length bs → length bs < 4 → spellOne (padded (bs ++ (b ∷ []))) ≡ set (spellOne (padded bs)) (length bs) b
@@ -79,195 +77,187 @@ padded-one : (b : ℕ) → spellOne (padded (b ∷ [])) ≡ b ∷ 0x5F ∷ 0x5F 
 unfolding padded
 padded-one b = refl
 
--- a byte where a `^` or a segment may start
-module _ (out : List ℕ) (s : Reading) (i b : ℕ) (rest : List ℕ) (whole : Answer (List Component)) (o : OnWay out s i (b ∷ rest) whole) (z : s .chars ≡ 0) where
-  pub start-up : b ≡ 0x5E → OnWay (placed componentLimit out (s .count) b 0 0 0) (record { count = s .count + 1; chars = 0 }) (suc i) rest whole
-  start-up e = go (o .here) (o .held) (o .left)
-    where
-      go : (h : Place) → Held out s i (o .done) h → after (o .done) (reading h i (b ∷ rest)) ≡ whole →
-          OnWay (placed componentLimit out (s .count) b 0 0 0) (record { count = s .count + 1; chars = 0 }) (suc i) rest whole
-      go before g l =
-          record {
-            done = o .done ++ (up ∷ []);
-            here = before;
-            count = omega (arith, o .count, length-one (o .done) up);
-            held = (refl, rw (o .count, g .1) (shown-push componentLimit (o .done) up b 0 0 0 (ap (λ (n : ℕ). n ∷ 0 ∷ 0 ∷ 0 ∷ []) (sym e))));
-            left = after-one (o .done) up (reading before (suc i) rest) ∙ ap (after (o .done)) (sym (read-up i b rest e)) ∙ l;
-          }
-      go (inside q bs) g l = absurd (length-some bs (g .1) (sym (g .0) ∙ z))
+module _ {limit : ℕ} {out : List ℕ} {n i : ℕ} {rest : List ℕ} {whole : Answer (List Component)} where
+  now-between : Between limit out (record { count = n; chars = 0 }) i rest whole → OnWay limit out (record { count = n; chars = 0 }) i rest whole
+  now-between b = record { between = λ z. b; within = λ n. absurd (n refl) }
 
-  pub start-lead : (b ≡ 0x5E → ⊥) → leadOk b ≡ true → OnWay (placed componentLimit out (s .count) b 0x5F 0x5F 0x5F) (record { count = s .count; chars = 1 }) (suc i) rest whole
-  start-lead n k = go (o .here) (o .held) (o .left)
-    where
-      go : (h : Place) → Held out s i (o .done) h → after (o .done) (reading h i (b ∷ rest)) ≡ whole →
-          OnWay (placed componentLimit out (s .count) b 0x5F 0x5F 0x5F) (record { count = s .count; chars = 1 }) (suc i) rest whole
-      go before g l =
-          record {
-            done = o .done;
-            here = inside i (b ∷ []);
-            count = o .count;
-            held = (refl, omega arith, omega arith, omega arith, rw (o .count, g .1) (shown-push componentLimit (o .done) (padded (b ∷ [])) b 0x5F 0x5F 0x5F (padded-one b)));
-            left = ap (after (o .done)) (sym (read-lead i b rest n k)) ∙ l;
-          }
-      go (inside q bs) g l = absurd (length-some bs (g .1) (sym (g .0) ∙ z))
+  now-within : {k : ℕ} → 0 < k → Within limit out (record { count = n; chars = k }) i rest whole → OnWay limit out (record { count = n; chars = k }) i rest whole
+  now-within h w = record { between = λ z. absurd (omega arith); within = λ n. w }
 
-  pub start-wrong : (b ≡ 0x5E → ⊥) → leadOk b ≡ false → whole ≡ refuses 8 (i - s .chars)
-  start-wrong n k = go (o .here) (o .held) (o .left)
-    where
-      go : (h : Place) → Held out s i (o .done) h → after (o .done) (reading h i (b ∷ rest)) ≡ whole → whole ≡ refuses 8 (i - s .chars)
-      go before g l =
-          let e : i ≡ i - s .chars = omega arith in
-          sym l ∙ ap (after (o .done)) (read-wrong i b rest n k) ∙ ap (λ (p : ℕ). refuses 8 p) e
-      go (inside q bs) g l = absurd (length-some bs (g .1) (sym (g .0) ∙ z))
+module _ (limit : ℕ) (out : List ℕ) (s : Reading) (i b : ℕ) (rest : List ℕ) (whole : Answer (List Component)) (o : OnWay limit out s i (b ∷ rest) whole) where
+  -- a byte where a `^` or a segment may start
+  module _ (z : s .chars ≡ 0) where
+    pub start-up : b ≡ 0x5E → OnWay limit (placed limit out (s .count) b 0 0 0) (record { count = s .count + 1; chars = 0 }) (suc i) rest whole
+    start-up e =
+        let w = o .between z in
+        now-between (record {
+          done = w .done ++ (up ∷ []);
+          count = omega (arith, w .count, length-one (w .done) up);
+          memory = rw (w .count, w .memory) (shown-push limit (w .done) up b 0 0 0 (ap (λ (n : ℕ). n ∷ 0 ∷ 0 ∷ 0 ∷ []) (sym e)));
+          left = after-one (w .done) up (reading before (suc i) rest) ∙ ap (after (w .done)) (sym (read-up i b rest e)) ∙ w .left;
+        })
 
--- a byte in a segment
-module _ (out : List ℕ) (s : Reading) (i b : ℕ) (rest : List ℕ) (whole : Answer (List Component)) (o : OnWay out s i (b ∷ rest) whole) (z : s .chars ≡ 0 → ⊥) where
-  pub in-dot : b ≡ 0x2E → OnWay out (record { count = s .count + 1; chars = 0 }) (suc i) rest whole
-  in-dot e = go (o .here) (o .held) (o .left)
-    where
-      go : (h : Place) → Held out s i (o .done) h → after (o .done) (reading h i (b ∷ rest)) ≡ whole → OnWay out (record { count = s .count + 1; chars = 0 }) (suc i) rest whole
-      go before g l = absurd (z (g .0))
-      go (inside q bs) g l =
-          record {
-            done = o .done ++ (padded bs ∷ []);
-            here = before;
-            count = omega (arith, o .count, length-one (o .done) (padded bs));
-            held = (refl, g .4);
-            left = after-one (o .done) (padded bs) (reading before (suc i) rest) ∙ ap (after (o .done)) (sym (read-dot i b rest q bs e)) ∙ l;
-          }
+    pub start-lead : (b ≡ 0x5E → ⊥) → leadOk b ≡ true → OnWay limit (placed limit out (s .count) b 0x5F 0x5F 0x5F) (record { count = s .count; chars = 1 }) (suc i) rest whole
+    start-lead n k =
+        let w = o .between z in
+        now-within (omega arith) (record {
+          done = w .done;
+          start = i;
+          word = b ∷ [];
+          count = w .count;
+          chars = refl;
+          most = omega arith;
+          here = omega arith;
+          memory = rw (w .count, w .memory) (shown-push limit (w .done) (padded (b ∷ [])) b 0x5F 0x5F 0x5F (padded-one b));
+          left = ap (after (w .done)) (sym (read-lead i b rest n k)) ∙ w .left;
+        })
 
-  pub in-char : (b ≡ 0x2E → ⊥) → s .chars < 4 → charOk b ≡ true →
-      OnWay (placedChar componentLimit out (s .count) (s .chars) b) (record { count = s .count; chars = s .chars + 1 }) (suc i) rest whole
-  in-char n m k = go (o .here) (o .held) (o .left)
-    where
-      go : (h : Place) → Held out s i (o .done) h → after (o .done) (reading h i (b ∷ rest)) ≡ whole →
-          OnWay (placedChar componentLimit out (s .count) (s .chars) b) (record { count = s .count; chars = s .chars + 1 }) (suc i) rest whole
-      go before g l = absurd (z (g .0))
-      go (inside q bs) g l =
-          let f : length bs < 4 = omega arith in
-          record {
-            done = o .done;
-            here = inside q (bs ++ (b ∷ []));
-            count = o .count;
-            held = (
-              omega (arith, g .0, length-append bs (b ∷ [])),
-              omega (arith, length-append bs (b ∷ [])),
-              omega (arith, length-append bs (b ∷ [])),
-              omega (arith, g .3, length-append bs (b ∷ [])),
-              rw (o .count, g .0, g .4)
-                  (shown-char componentLimit (o .done) (padded bs) (padded (bs ++ (b ∷ []))) (length bs) b (omega (arith, padded-length bs)) (padded-more bs b (g .1) f)),
-            );
-            left = ap (after (o .done)) (sym (read-char i b rest q bs n f k)) ∙ l;
-          }
+    pub start-wrong : (b ≡ 0x5E → ⊥) → leadOk b ≡ false → whole ≡ refuses 8 (i - s .chars)
+    start-wrong n k =
+        let w = o .between z in
+        let e : i ≡ i - s .chars = omega arith in
+        sym (w .left) ∙ ap (after (w .done)) (read-wrong i b rest n k) ∙ ap (λ (p : ℕ). refuses 8 p) e
 
-  start-is : (q : ℕ) (bs : List ℕ) → s .chars ≡ length bs → q + length bs ≡ i → q ≡ i - s .chars
-  start-is q bs e f = omega arith
+  -- a byte within a segment
+  module _ (z : s .chars ≡ 0 → ⊥) (n : b ≡ 0x2E → ⊥) where
+    pub in-char : s .chars < 4 → charOk b ≡ true →
+        OnWay limit (placedChar limit out (s .count) (s .chars) b) (record { count = s .count; chars = s .chars + 1 }) (suc i) rest whole
+    in-char m k =
+        let w = o .within z in
+        let f : length (w .word) < 4 = omega (arith, w .chars) in
+        let g : 0 < length (w .word) = some (s .chars) (length (w .word)) (w .chars) z in
+        let l = length-append (w .word) (b ∷ []) in
+        now-within (omega arith) (record {
+          done = w .done;
+          start = w .start;
+          word = w .word ++ (b ∷ []);
+          count = w .count;
+          chars = omega (arith, w .chars);
+          most = omega arith;
+          here = omega (arith, w .here);
+          memory = rw (w .count, w .chars, w .memory)
+              (shown-char limit (w .done) (padded (w .word)) (padded (w .word ++ (b ∷ []))) (length (w .word)) b (omega (arith, padded-length (w .word))) (padded-more (w .word) b g f));
+          left = ap (after (w .done)) (sym (read-char i b rest (w .start) (w .word) n f k)) ∙ w .left;
+        })
+      where
+        some : (m k : ℕ) → m ≡ k → (m ≡ 0 → ⊥) → 0 < k
+        some m k e z = omega arith
 
-  pub in-none : (b ≡ 0x2E → ⊥) → charOk b ≡ false → whole ≡ refuses 8 (i - s .chars)
-  in-none n k = go (o .here) (o .held) (o .left)
-    where
-      go : (h : Place) → Held out s i (o .done) h → after (o .done) (reading h i (b ∷ rest)) ≡ whole → whole ≡ refuses 8 (i - s .chars)
-      go before g l = absurd (z (g .0))
-      go (inside q bs) g l = sym l ∙ ap (after (o .done)) (read-none i b rest q bs n k) ∙ ap (λ (p : ℕ). refuses 8 p) (start-is q bs (g .0) (g .3))
+    wrong-at : (q : ℕ) (bs : List ℕ) → s .chars ≡ length bs → q + length bs ≡ i → _≡_ {A = Answer (List Component)} (refuses 8 q) (refuses 8 (i - s .chars))
+    wrong-at q bs e f = let p : q ≡ i - s .chars = omega arith in ap (λ (p : ℕ). refuses 8 p) p
 
-  pub in-fifth : (b ≡ 0x2E → ⊥) → 4 ≤ s .chars → whole ≡ refuses 8 (i - s .chars)
-  in-fifth n m = go (o .here) (o .held) (o .left)
-    where
-      go : (h : Place) → Held out s i (o .done) h → after (o .done) (reading h i (b ∷ rest)) ≡ whole → whole ≡ refuses 8 (i - s .chars)
-      go before g l = absurd (z (g .0))
-      go (inside q bs) g l = sym l ∙ ap (after (o .done)) (read-fifth i b rest q bs n (omega (arith, g .0))) ∙ ap (λ (p : ℕ). refuses 8 p) (start-is q bs (g .0) (g .3))
+    pub in-none : charOk b ≡ false → whole ≡ refuses 8 (i - s .chars)
+    in-none k = let w = o .within z in sym (w .left) ∙ ap (after (w .done)) (read-none i b rest (w .start) (w .word) n k) ∙ wrong-at (w .start) (w .word) (w .chars) (w .here)
+
+    pub in-fifth : 4 ≤ s .chars → whole ≡ refuses 8 (i - s .chars)
+    in-fifth m =
+        let w = o .within z in
+        sym (w .left) ∙ ap (after (w .done)) (read-fifth i b rest (w .start) (w .word) n (omega (arith, w .chars))) ∙ wrong-at (w .start) (w .word) (w .chars) (w .here)
+
+  pub in-dot : (s .chars ≡ 0 → ⊥) → b ≡ 0x2E → OnWay limit out (record { count = s .count + 1; chars = 0 }) (suc i) rest whole
+  in-dot z e =
+      let w = o .within z in
+      now-between (record {
+        done = w .done ++ (padded (w .word) ∷ []);
+        count = omega (arith, w .count, length-one (w .done) (padded (w .word)));
+        memory = w .memory;
+        left = after-one (w .done) (padded (w .word)) (reading before (suc i) rest) ∙ ap (after (w .done)) (sym (read-dot i b rest (w .start) (w .word) e)) ∙ w .left;
+      })
 
 -- the same, by other names
-pub way-memory : {o p : List ℕ} {s : Reading} {i : ℕ} {rest : List ℕ} {whole : Answer (List Component)} → o ≡ p → OnWay p s i rest whole → OnWay o s i rest whole
-way-memory {o} {p} {s} {i} {rest} {whole} e h = subst (λ (x : List ℕ). OnWay x s i rest whole) (sym e) h
+pub way-memory : {limit : ℕ} {o p : List ℕ} {s : Reading} {i : ℕ} {rest : List ℕ} {whole : Answer (List Component)} → o ≡ p → OnWay limit p s i rest whole → OnWay limit o s i rest whole
+way-memory {limit} {o} {p} {s} {i} {rest} {whole} e h = subst (λ (x : List ℕ). OnWay limit x s i rest whole) (sym e) h
 
-pub turns-from : {o p : List ℕ} {s : Reading} {b : ℕ} {r : Turn} → s .chars ≡ 0 → Turns o (record { count = s .count; chars = 0 }) b p r → Turns o s b p r
-turns-from {o} {p} {s} {b} {r} e h = subst (λ (n : ℕ). Turns o (record { count = s .count; chars = n }) b p r) (sym e) h
+pub turns-as : {limit : ℕ} {o p : List ℕ} {s : Reading} {b : ℕ} {r q : Turn} → r ≡ q → Turns limit o s b p r → Turns limit o s b p q
+turns-as {limit} {o} {p} {s} {b} e h = subst (λ (r : Turn). Turns limit o s b p r) e h
+
+pub ended-as : (limit : ℕ) (out : List ℕ) (whole : Answer (List Component)) {r q : PartsEnd} → r ≡ q → Ended limit out r whole → Ended limit out q whole
+ended-as limit out whole e h = subst (λ (x : PartsEnd). Ended limit out x whole) e h
 
 -- where a reader stands before a text, in it, and at its end
-pub way-start : (out : List ℕ) (have from : ℕ) (text : List ℕ) (done : List Component) → out ≡ shown componentLimit done → have ≡ length done →
-    OnWay out (record { count = have; chars = 0 }) from (drop from text) (after done (reading before from (drop from text)))
-way-start out have from text done e h = record { done = done; here = before; count = h; held = (refl, e); left = refl }
+pub way-start : (limit : ℕ) (out : List ℕ) (from : ℕ) (text : List ℕ) (done : List Component) → out ≡ shown limit done → from ≡ length done →
+    OnWay limit out (record { count = from; chars = 0 }) from (drop from text) (after done (reading before from (drop from text)))
+way-start limit out from text done e h = now-between (record { done = done; count = h; memory = e; left = refl })
 
-pub way-next : (out : List ℕ) (s : Reading) (i : ℕ) (text : List ℕ) (whole : Answer (List Component)) → i < length text → OnWay out s i (drop i text) whole →
-    OnWay out s i (getD text i 0 ∷ drop (suc i) text) whole
-way-next out s i text whole h o = rw (drop-cons text i 0 h) at o
+module _ (limit : ℕ) (out : List ℕ) (s : Reading) (i : ℕ) (text : List ℕ) (whole : Answer (List Component)) where
+  pub way-next : i < length text → OnWay limit out s i (drop i text) whole → OnWay limit out s i (getD text i 0 ∷ drop (suc i) text) whole
+  way-next h o = rw (drop-cons text i 0 h) at o
 
-pub way-on : (out : List ℕ) (s : Reading) (i : ℕ) (text : List ℕ) (whole : Answer (List Component)) → OnWay out s (suc i) (drop (suc i) text) whole → OnWay out s (i + 1) (drop (i + 1) text) whole
-way-on out s i text whole o = let e : i + 1 ≡ suc i = omega arith in rw e o
+  pub way-on : OnWay limit out s (suc i) (drop (suc i) text) whole → OnWay limit out s (i + 1) (drop (i + 1) text) whole
+  way-on o = let e : i + 1 ≡ suc i = omega arith in rw e o
 
-pub turns-as : {o p : List ℕ} {s : Reading} {b : ℕ} {r q : Turn} → r ≡ q → Turns o s b p r → Turns o s b p q
-turns-as {o} {p} {s} {b} e h = subst (λ (r : Turn). Turns o s b p r) e h
+  module _ (h : length text ≤ i) (o : OnWay limit out s i (drop i text) whole) where
+    pub end-before : s .chars ≡ 0 → Ended limit out (PartsEnd.Wrong i) whole
+    unfolding reading
+    end-before z = let w = o .between z in sym (w .left) ∙ rw (drop-of-length-le text h)
 
-pub ended-as : (out : List ℕ) (whole : Answer (List Component)) {r q : PartsEnd} → r ≡ q → Ended out r whole → Ended out q whole
-ended-as out whole e h = subst (λ (x : PartsEnd). Ended out x whole) e h
+    pub end-inside : (s .chars ≡ 0 → ⊥) → Ended limit out (PartsEnd.Count (s .count + 1)) whole
+    unfolding reading
+    end-inside z =
+        let w = o .within z in
+        (w .done ++ (padded (w .word) ∷ []), sym (w .left) ∙ rw (drop-of-length-le text h), omega (arith, w .count, length-one (w .done) (padded (w .word))), w .memory)
 
-drop-past : (text : List ℕ) (i : ℕ) → length text ≤ i → drop i text ≡ []
-drop-past text i h = drop-of-length-le text h
-
-module _ (out : List ℕ) (s : Reading) (i : ℕ) (text : List ℕ) (whole : Answer (List Component)) (o : OnWay out s i (drop i text) whole) (h : length text ≤ i) where
-  ended : after (o .done) (reading (o .here) i []) ≡ whole
-  ended = ap (λ (l : List ℕ). after (o .done) (reading (o .here) i l)) (sym (drop-past text i h)) ∙ o .left
-
-  pub end-before : s .chars ≡ 0 → Ended out (PartsEnd.Wrong i) whole
-  unfolding reading
-  end-before z = go (o .here) (o .held) ended
-    where
-      go : (h : Place) → Held out s i (o .done) h → after (o .done) (reading h i []) ≡ whole → whole ≡ refuses 8 i
-      go before g l = sym l
-      go (inside q bs) g l = absurd (length-some bs (g .1) (sym (g .0) ∙ z))
-
-  pub end-inside : (s .chars ≡ 0 → ⊥) → Ended out (PartsEnd.Count (s .count + 1)) whole
-  unfolding reading
-  end-inside z = go (o .here) (o .held) ended
-    where
-      go : (h : Place) → Held out s i (o .done) h → after (o .done) (reading h i []) ≡ whole → Ended out (PartsEnd.Count (s .count + 1)) whole
-      go before g l = absurd (z (g .0))
-      go (inside q bs) g l = (o .done ++ (padded bs ∷ []), sym l, omega (arith, o .count, length-one (o .done) (padded bs)), g .4)
-
--- a whole text
-after-none : (r : Answer (List Component)) → after [] r ≡ r
-after-none (gives cs) = refl
-after-none (refuses n p) = refl
-
-after-root : (r : Answer (List Component)) → after (root ∷ []) r ≡ consed root r
-after-root (gives cs) = refl
-after-root (refuses n p) = refl
+-- ## A whole text
 
 pub text-none : (limit : ℕ) (text : List ℕ) → length text ≡ 0 → refuses 7 0 ≡ fromText limit text
 unfolding fromText textPath
 text-none limit [] e = refl
 text-none limit (b ∷ s) e = absurd (omega arith)
 
-pub text-root : (limit : ℕ) (text : List ℕ) → length text ≡ 1 → getD text 0 0 ≡ 0x5C → limited limit (root ∷ []) ≡ fromText limit text
-unfolding fromText textPath afterRoot
-text-root limit [] n e = absurd (omega arith)
-text-root limit (b ∷ []) n e = rw (eq-eqb b 0x5C e)
-text-root limit (b ∷ c ∷ s) n e = absurd (omega arith)
-
-pub text-rooted : (text : List ℕ) → 1 < length text → getD text 0 0 ≡ 0x5C → after (root ∷ []) (reading before 1 (drop 1 text)) ≡ textPath text
+pub text-rooted : (s : List ℕ) → 0 < length s → textPath (0x5C ∷ s) ≡ consed root (reading before 1 s)
 unfolding textPath afterRoot
-text-rooted [] n e = absurd (omega arith)
-text-rooted (b ∷ []) n e = absurd (omega arith)
-text-rooted (b ∷ c ∷ s) n e = rw (eq-eqb b 0x5C e) (after-root (reading before 1 (c ∷ s)))
+text-rooted [] n = absurd (omega arith)
+text-rooted (b ∷ s) n = refl
 
-pub text-plain : (text : List ℕ) → 0 < length text → (getD text 0 0 ≡ 0x5C → ⊥) → after [] (reading before 0 (drop 0 text)) ≡ textPath text
+pub text-plain : (text : List ℕ) → 0 < length text → (getD text 0 0 ≡ 0x5C → ⊥) → textPath text ≡ reading before 0 text
 unfolding textPath
 text-plain [] n e = absurd (omega arith)
-text-plain (b ∷ s) n e = rw (ne-eqb b 0x5C e) (after-none (reading before 0 (b ∷ s)))
+text-plain (b ∷ s) n e = rw (ne-eqb b 0x5C e)
 
-text-as : (limit : ℕ) (text : List ℕ) (w : Answer (List Component)) → w ≡ textPath text → andThen w (limited limit) ≡ fromText limit text
-unfolding fromText
-text-as limit text w e = rw e
+after-none : (r : Answer (List Component)) → after [] r ≡ r
+after-none (gives cs) = refl
+after-none (refuses n p) = refl
+
+pub root-short : (b : ℕ) → length (rootOf b) ≤ 1
+root-short b = go (eqb b 0x5C)
+  where
+    go : (t : Bool) → length (cond t (root ∷ []) []) ≤ 1
+    go true = omega arith
+    go false = omega arith
+
+-- a root alone, or parts, behind a root where there is one
+text-root : (text : List ℕ) → 0 < length text → length text ≡ length (rootOf (getD text 0 0)) → textPath text ≡ gives (rootOf (getD text 0 0))
+unfolding textPath afterRoot
+text-root [] n e = absurd (omega arith)
+text-root (b ∷ s) n e = go (eqb b 0x5C) s e
+  where
+    go : (t : Bool) (s : List ℕ) → suc (length s) ≡ length (cond t (root ∷ []) []) → cond t (afterRoot s) (reading before 0 (b ∷ s)) ≡ gives (cond t (root ∷ []) [])
+    go true [] e = refl
+    go true (c ∷ s) e = absurd (omega arith)
+    go false s e = absurd (omega arith)
+
+text-parts : (text : List ℕ) → 0 < length text → (length text ≡ length (rootOf (getD text 0 0)) → ⊥) →
+    after (rootOf (getD text 0 0)) (reading before (length (rootOf (getD text 0 0))) (drop (length (rootOf (getD text 0 0))) text)) ≡ textPath text
+unfolding textPath afterRoot
+text-parts [] n e = absurd (omega arith)
+text-parts (b ∷ s) n e = go (eqb b 0x5C) s e
+  where
+    go : (t : Bool) (s : List ℕ) → (suc (length s) ≡ length (cond t (root ∷ []) []) → ⊥) →
+        after (cond t (root ∷ []) []) (reading before (length (cond t (root ∷ []) [])) (drop (length (cond t (root ∷ []) [])) (b ∷ s)))
+        ≡ cond t (afterRoot s) (reading before 0 (b ∷ s))
+    go true [] e = absurd (e refl)
+    go true (c ∷ s) e = refl
+    go false s e = after-none (reading before 0 (b ∷ s))
+
+-- the same, from where the reader stands
+module _ (text : List ℕ) (from : ℕ) (some : 0 < length text) (e : from ≡ length (rootOf (getD text 0 0))) where
+  pub root-by : length text ≡ from → textPath text ≡ gives (rootOf (getD text 0 0))
+  root-by h = text-root text some (h ∙ e)
+
+  pub parts-by : (length text ≡ from → ⊥) → textPath text ≡ after (rootOf (getD text 0 0)) (reading before from (drop from text))
+  parts-by n = rw e (sym (text-parts text some (λ h. n (h ∙ sym e))))
 
 -- how the parts end decides the text
-module _ (limit : ℕ) (text : List ℕ) (w : Answer (List Component)) (e : w ≡ textPath text) where
-  pub text-done : (cs : List Component) → w ≡ gives cs → limited limit cs ≡ fromText limit text
-  text-done cs f = ap (λ (a : Answer (List Component)). andThen a (limited limit)) (sym f) ∙ text-as limit text w e
-
-  pub text-wrong : (n p : ℕ) → w ≡ refuses n p → refuses n p ≡ fromText limit text
-  text-wrong n p f = ap (λ (a : Answer (List Component)). andThen a (limited limit)) (sym f) ∙ text-as limit text w e
-
--- the root in zeros
-pub root-shown : (out : List ℕ) → out ≡ placed componentLimit (zeros 128) 0 0x5C 0 0 0 → out ≡ shown componentLimit (root ∷ [])
-root-shown out e = e ∙ ap (λ (l : List ℕ). placed componentLimit l 0 0x5C 0 0 0) (sym (shown-none componentLimit)) ∙ shown-push componentLimit [] root 0x5C 0 0 0 refl
+pub text-by : (limit : ℕ) (text : List ℕ) {w : Answer (List Component)} → textPath text ≡ w → andThen w (limited limit) ≡ fromText limit text
+unfolding fromText
+text-by limit text e = rw e

@@ -1,7 +1,7 @@
 -- Components in the making, in memory: a `put` adds one, takes the last away, or changes a character of it. Above the limit memory does not change.
 use mathlib.Core.Path.{_≡_, refl, sym, _∙_, ap}
 use mathlib.Core.Bool.{Bool, true, false, cond}
-use mathlib.Core.List.{List, [], _∷_, _++_, append-assoc}
+use mathlib.Core.List.{List, [], _∷_, _++_, append-assoc, append-nil}
 use Prim.Native.Nat.{ℕ, zero, suc, _+_, _-_, _*_, _≤_, _<_}
 use native.Mathlib.Omega.{arith}
 use lib.Dec.{ltb}
@@ -25,43 +25,41 @@ shown-more : (limit : ℕ) (cs : List Component) (x : Component) → limit ≤ l
 unfolding shown nameOf
 shown-more limit cs x h = rw (take-append-le limit cs (x ∷ []) h)
 
-length-one : (cs : List Component) (x : Component) → length (cs ++ (x ∷ [])) ≡ length cs + 1
+pub length-one : (cs : List Component) (x : Component) → length (cs ++ (x ∷ [])) ≡ length cs + 1
 length-one cs x = length-append cs (x ∷ [])
 
+-- what is written where there is room, and else stays
+where-room : (k limit : ℕ) (new old whole : List ℕ) → (k < limit → new ≡ whole) → (limit ≤ k → old ≡ whole) → cond (ltb k limit) new old ≡ whole
+where-room k limit new old whole f g = go (ltb k limit) refl
+  where
+    go : (t : Bool) → ltb k limit ≡ t → cond t new old ≡ whole
+    go true t = f (ltb-true k limit t)
+    go false t = g (ltb-false k limit t)
+
 module _ (limit : ℕ) (cs : List Component) (x : Component) where
-  push-in : (a b c d : ℕ) → spellOne x ≡ a ∷ b ∷ c ∷ d ∷ [] → length cs < limit → put4 (shown limit cs) (4 * length cs) a b c d ≡ shown limit (cs ++ (x ∷ []))
-  unfolding nameOf pushed bytesOf
-  push-in a b c d e h =
-      ap (λ (l : List ℕ). put4 l (4 * length cs) a b c d) (shown-fits limit cs (omega arith))
-      ∙ ap bytesOf (push-one limit cs x a b c d h e)
-      ∙ sym (shown-fits limit (cs ++ (x ∷ [])) (omega (arith, length-one cs x)))
-
-  pop-in : (a b c d : ℕ) → spellOne x ≡ a ∷ b ∷ c ∷ d ∷ [] → length cs < limit → put4 (shown limit (cs ++ (x ∷ []))) (4 * length cs) 0 0 0 0 ≡ shown limit cs
-  unfolding nameOf popped bytesOf
-  pop-in a b c d e h =
-      let n : length cs ≡ length (cs ++ (x ∷ [])) - 1 = omega (arith, length-one cs x) in
-      ap (λ (l : List ℕ). put4 l (4 * length cs) 0 0 0 0) (shown-fits limit (cs ++ (x ∷ [])) (omega (arith, length-one cs x)))
-      ∙ ap (λ (k : ℕ). put4 (nameOf limit (cs ++ (x ∷ [])) .bytes) (4 * k) 0 0 0 0) n
-      ∙ ap bytesOf (pop-one limit cs x a b c d h e)
-      ∙ sym (shown-fits limit cs (omega arith))
-
   -- one component more
   pub shown-push : (a b c d : ℕ) → spellOne x ≡ a ∷ b ∷ c ∷ d ∷ [] → placed limit (shown limit cs) (length cs) a b c d ≡ shown limit (cs ++ (x ∷ []))
-  unfolding placed
-  shown-push a b c d e = go (ltb (length cs) limit) refl
+  unfolding placed nameOf pushed bytesOf
+  shown-push a b c d e = where-room (length cs) limit _ _ _ room (λ l. sym (shown-more limit cs x l))
     where
-      go : (t : Bool) → ltb (length cs) limit ≡ t → cond t (put4 (shown limit cs) (4 * length cs) a b c d) (shown limit cs) ≡ shown limit (cs ++ (x ∷ []))
-      go true t = push-in a b c d e (ltb-true (length cs) limit t)
-      go false t = sym (shown-more limit cs x (ltb-false (length cs) limit t))
+      room : length cs < limit → put4 (shown limit cs) (4 * length cs) a b c d ≡ shown limit (cs ++ (x ∷ []))
+      room h =
+          ap (λ (l : List ℕ). put4 l (4 * length cs) a b c d) (shown-fits limit cs (omega arith))
+          ∙ ap bytesOf (push-one limit cs x a b c d h e)
+          ∙ sym (shown-fits limit (cs ++ (x ∷ [])) (omega (arith, length-one cs x)))
 
   -- the last one away
   pub shown-pop : (a b c d : ℕ) → spellOne x ≡ a ∷ b ∷ c ∷ d ∷ [] → placed limit (shown limit (cs ++ (x ∷ []))) (length cs) 0 0 0 0 ≡ shown limit cs
-  unfolding placed
-  shown-pop a b c d e = go (ltb (length cs) limit) refl
+  unfolding placed nameOf popped bytesOf
+  shown-pop a b c d e = where-room (length cs) limit _ _ _ room (shown-more limit cs x)
     where
-      go : (t : Bool) → ltb (length cs) limit ≡ t → cond t (put4 (shown limit (cs ++ (x ∷ []))) (4 * length cs) 0 0 0 0) (shown limit (cs ++ (x ∷ []))) ≡ shown limit cs
-      go true t = pop-in a b c d e (ltb-true (length cs) limit t)
-      go false t = shown-more limit cs x (ltb-false (length cs) limit t)
+      room : length cs < limit → put4 (shown limit (cs ++ (x ∷ []))) (4 * length cs) 0 0 0 0 ≡ shown limit cs
+      room h =
+          let n : length cs ≡ length (cs ++ (x ∷ [])) - 1 = omega (arith, length-one cs x) in
+          ap (λ (l : List ℕ). put4 l (4 * length cs) 0 0 0 0) (shown-fits limit (cs ++ (x ∷ [])) (omega (arith, length-one cs x)))
+          ∙ ap (λ (k : ℕ). put4 (nameOf limit (cs ++ (x ∷ [])) .bytes) (4 * k) 0 0 0 0) n
+          ∙ ap bytesOf (pop-one limit cs x a b c d h e)
+          ∙ sym (shown-fits limit cs (omega arith))
 
   -- the bytes of the last one
   pub shown-last : length cs < limit →
@@ -85,31 +83,25 @@ set-in (y ∷ p) q r n j v e h =
 
 spell-last : (cs : List Component) (x : Component) → spell (cs ++ (x ∷ [])) ≡ spell cs ++ spellOne x
 unfolding spell
-spell-last cs x = spell-append cs (x ∷ []) ∙ ap (λ (l : List ℕ). spell cs ++ l) (go (spellOne x))
+spell-last cs x = spell-append cs (x ∷ []) ∙ ap (λ (l : List ℕ). spell cs ++ l) (append-nil (spellOne x))
+
+pub shown-char : (limit : ℕ) (cs : List Component) (x y : Component) (j b : ℕ) → j < length (spellOne x) → spellOne y ≡ set (spellOne x) j b →
+    placedChar limit (shown limit (cs ++ (x ∷ []))) (length cs) j b ≡ shown limit (cs ++ (y ∷ []))
+unfolding placedChar nameOf
+shown-char limit cs x y j b g e = where-room (length cs) limit _ _ _ room (λ l. shown-more limit cs x l ∙ sym (shown-more limit cs y l))
   where
-    go : (l : List ℕ) → l ++ [] ≡ l
-    go [] = refl
-    go (a ∷ l) = ap (λ (r : List ℕ). a ∷ r) (go l)
+    room : length cs < limit → set (shown limit (cs ++ (x ∷ []))) (4 * length cs + j) b ≡ shown limit (cs ++ (y ∷ []))
+    room h =
+        let m : length (cs ++ (y ∷ [])) ≡ length (cs ++ (x ∷ [])) = omega (arith, length-one cs x, length-one cs y) in
+        rw (shown-fits limit (cs ++ (x ∷ [])) (omega (arith, length-one cs x)), shown-fits limit (cs ++ (y ∷ [])) (omega (arith, length-one cs y)), spell-last cs x, spell-last cs y, e, m)
+        (ap (λ (l : List ℕ). set l (4 * length cs + j) b) (append-assoc (spell cs) (spellOne x) _)
+        ∙ set-in (spell cs) (spellOne x) _ (4 * length cs) j b (length-spell cs) g
+        ∙ sym (append-assoc (spell cs) (set (spellOne x) j b) _))
 
-module _ (limit : ℕ) (cs : List Component) (x y : Component) (j b : ℕ) where
-  char-in : j < length (spellOne x) → spellOne y ≡ set (spellOne x) j b → length cs < limit → set (shown limit (cs ++ (x ∷ []))) (4 * length cs + j) b ≡ shown limit (cs ++ (y ∷ []))
-  unfolding nameOf
-  char-in g e h =
-      let m : length (cs ++ (y ∷ [])) ≡ length (cs ++ (x ∷ [])) = omega (arith, length-one cs x, length-one cs y) in
-      rw (shown-fits limit (cs ++ (x ∷ [])) (omega (arith, length-one cs x)), shown-fits limit (cs ++ (y ∷ [])) (omega (arith, length-one cs y)), spell-last cs x, spell-last cs y, e, m)
-      (ap (λ (l : List ℕ). set l (4 * length cs + j) b) (append-assoc (spell cs) (spellOne x) _)
-      ∙ set-in (spell cs) (spellOne x) _ (4 * length cs) j b (length-spell cs) g
-      ∙ sym (append-assoc (spell cs) (set (spellOne x) j b) _))
-
-  pub shown-char : j < length (spellOne x) → spellOne y ≡ set (spellOne x) j b → placedChar limit (shown limit (cs ++ (x ∷ []))) (length cs) j b ≡ shown limit (cs ++ (y ∷ []))
-  unfolding placedChar
-  shown-char g e = go (ltb (length cs) limit) refl
-    where
-      go : (t : Bool) → ltb (length cs) limit ≡ t → cond t (set (shown limit (cs ++ (x ∷ []))) (4 * length cs + j) b) (shown limit (cs ++ (x ∷ []))) ≡ shown limit (cs ++ (y ∷ []))
-      go true t = char-in g e (ltb-true (length cs) limit t)
-      go false t = let l = ltb-false (length cs) limit t in shown-more limit cs x l ∙ sym (shown-more limit cs y l)
-
-pub shown-none : (limit : ℕ) → shown limit [] ≡ zeros (4 * (limit - 0))
+pub shown-none : (limit : ℕ) → zeros (4 * limit) ≡ shown limit []
 unfolding shown nameOf spell
-shown-none zero = refl
-shown-none (suc n) = refl
+shown-none limit = let e : limit - 0 ≡ limit = omega arith in sym (empty limit ∙ ap (λ (n : ℕ). zeros (4 * n)) e)
+  where
+    empty : (limit : ℕ) → shown limit [] ≡ zeros (4 * (limit - 0))
+    empty zero = refl
+    empty (suc n) = refl

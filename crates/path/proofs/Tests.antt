@@ -1,6 +1,6 @@
 -- The turns of the test of 26.
 use mathlib.Core.Path.{_≡_, refl}
-use mathlib.Core.Bool.{Bool, true, false, cond}
+use mathlib.Core.Bool.{Bool, true, false, _&&_}
 use mathlib.Core.List.{List}
 use Prim.Native.Nat.{ℕ, suc, _+_, _-_, _*_, _≤_, _<_}
 use native.Mathlib.Omega.{arith}
@@ -16,7 +16,7 @@ kindAt : Bool → List ℕ → ℕ → Bool
 kindAt first bs at = kindOk first (getD bs at 0) (getD bs (at + 1) 0) (getD bs (at + 2) 0) (getD bs (at + 3) 0)
 
 bytes-cons : (first : Bool) (n at : ℕ) (bs : List ℕ) →
-    bytesOk first (suc n) (drop at bs) ≡ cond (kindAt first bs at) (bytesOk false n (drop (at + 4) bs)) false
+    bytesOk first (suc n) (drop at bs) ≡ (kindAt first bs at && bytesOk false n (drop (at + 4) bs))
 unfolding bytesOk kindAt
 bytes-cons first n at bs =
     let z : at + 0 ≡ at = omega arith in

@@ -4,91 +4,64 @@ use mathlib.Core.Bool.{Bool, true, false, cond}
 use mathlib.Core.List.{List, [], _∷_, _++_, append-assoc, append-nil}
 use Prim.Native.Nat.{ℕ, suc, _+_, _-_, _*_, _≤_, _<_}
 use native.Mathlib.Omega.{arith}
-use lib.Dec.{eqb, ltb, leb}
+use lib.Dec.{ltb}
 use lib.ListN.{length, getD, set, take, drop, length-append, length-drop, drop-of-length-le}
-use lib.Seq.{drop-cons, sets, sets-eq, take-at, drop-append-add, drop-drop}
-use borrow.Author.Tests.{eq-eqb, ne-eqb, lt-ltb, le-ltb, le-leb, lt-leb, ltb-true, ltb-false}
+use lib.Seq.{sets, sets-eq, take-at, drop-append-add, drop-drop}
+use borrow.Author.Tests.{lt-ltb, le-ltb, le-leb, lt-leb, ltb-true, ltb-false, eqb-true}
 use Rattle.pkg_length.specs.Refusal.{Answer, gives, refuses, andThen}
-use Rattle.name_object.specs.Component.{Component, root, up, seg, leadOk, fine, spellOne, componentLimit}
-use Rattle.name_object.specs.Memory.{pathOk, pathOf, pathIn}
+use Rattle.name_object.specs.Component.{Component, root, up, seg}
+use Rattle.name_object.specs.Memory.{componentOf, pathOk, pathOf, pathIn}
 use Rattle.name_object.specs.declared.AmlName.{AmlName}
-use Rattle.name_object.proofs.Paths.{path-fine}
+use Rattle.name_object.proofs.Paths.{by-kind}
 use Rattle.path.specs.Text.{textOf, textWithin, Wrote, wrote}
-use Rattle.path.specs.Inside.{piece, pieceLength}
+use Rattle.path.specs.Inside.{isMark, piece, pieceLength}
 use Rattle.path.proofs.Basics.{path-good}
-use Rattle.path.proofs.Walks.{seg-of, path-byte, length-path}
-use Rattle.path.proofs.Climbs.{lead-5C, lead-5E, seg-lead, lead-not}
-use Rattle.path.proofs.Flags.{fine-at}
+use Rattle.path.proofs.Walks.{path-next, length-path}
 
--- the text of a component, with a dot if more follows a segment
+-- ## The text of a component, with a dot if more follows a segment
+
 pieceOf : Bool → Component → List ℕ
 pieceOf more root = 0x5C ∷ []
 pieceOf more up = 0x5E ∷ []
 pieceOf more (seg a b c d) = a ∷ b ∷ c ∷ d ∷ cond more (0x2E ∷ []) []
 
-piece-seg : (more : Bool) (a b c d : ℕ) → leadOk a ≡ true → piece more a b c d ≡ pieceOf more (seg a b c d)
+piece-is : (more : Bool) (a b c d : ℕ) → pieceOf more (componentOf a b c d) ≡ piece more a b c d
 unfolding piece pieceOf
-piece-seg more a b c d h = rw (ne-eqb a 0x5C (lead-not a 0x5C h lead-5C), ne-eqb a 0x5E (lead-not a 0x5E h lead-5E))
-
-piece-root : (more : Bool) (b c d : ℕ) → piece more 0x5C b c d ≡ pieceOf more root
-unfolding piece pieceOf
-piece-root more b c d = refl
-
-piece-up : (more : Bool) (b c d : ℕ) → piece more 0x5E b c d ≡ pieceOf more up
-unfolding piece pieceOf
-piece-up more b c d = refl
-
-piece-is : (more : Bool) (x : Component) (a b c d : ℕ) (f : Bool) → spellOne x ≡ a ∷ b ∷ c ∷ d ∷ [] → fine f (x ∷ []) ≡ true → piece more a b c d ≡ pieceOf more x
-piece-is more root a b c d f e h = let z : 0x5C ≡ a = cc in ap (λ (n : ℕ). piece more n b c d) (sym z) ∙ piece-root more b c d
-piece-is more up a b c d f e h = let z : 0x5E ≡ a = cc in ap (λ (n : ℕ). piece more n b c d) (sym z) ∙ piece-up more b c d
-piece-is more (seg p q r s) a b c d f e h =
-    let z₁ : p ≡ a = cc in
-    let z₂ : q ≡ b = cc in
-    let z₃ : r ≡ c = cc in
-    let z₄ : s ≡ d = cc in
-    rw (sym z₁, sym z₂, sym z₃, sym z₄) (piece-seg more p q r s (seg-lead p q r s (seg-of p q r s f h)))
+piece-is more a b c d =
+    by-kind a b c d (λ x. pieceOf more x ≡ cond (isMark a) (a ∷ []) (a ∷ b ∷ c ∷ d ∷ cond more (0x2E ∷ []) []))
+    (λ e. rw (e, eqb-true a 0x5C e)) (λ n e. rw (n, e, eqb-true a 0x5E e)) (λ n m. rw (n, m))
 
 pub piece-length : (more : Bool) (a b c d : ℕ) → length (piece more a b c d) ≡ pieceLength more a
 unfolding piece pieceLength
-piece-length more a b c d = go (eqb a 0x5C) (eqb a 0x5E) more
+piece-length more a b c d = go (isMark a) more
   where
-    go : (s t m : Bool) → length (cond s (a ∷ []) (cond t (a ∷ []) (a ∷ b ∷ c ∷ d ∷ cond m (0x2E ∷ []) []))) ≡ cond s 1 (cond t 1 (cond m 5 4))
-    go true t m = refl
-    go false true m = refl
-    go false false true = refl
-    go false false false = refl
+    go : (s m : Bool) → length (cond s (a ∷ []) (a ∷ b ∷ c ∷ d ∷ cond m (0x2E ∷ []) [])) ≡ cond s 1 (cond m 5 4)
+    go true m = refl
+    go false true = refl
+    go false false = refl
 
--- a piece, by its first byte and whether more follows
+-- by its first byte and whether more follows
 module _ (more : Bool) (a b c d : ℕ) where
-  pub piece-first : a ≡ 0x5C → (piece more a b c d ≡ a ∷ []) × (pieceLength more a ≡ 1)
+  pub piece-mark : isMark a ≡ true → (piece more a b c d ≡ a ∷ []) × (pieceLength more a ≡ 1)
   unfolding piece pieceLength
-  piece-first e = (rw (eq-eqb a 0x5C e), rw (eq-eqb a 0x5C e))
+  piece-mark e = (rw e, rw e)
 
-  pub piece-above : (a ≡ 0x5C → ⊥) → a ≡ 0x5E → (piece more a b c d ≡ a ∷ []) × (pieceLength more a ≡ 1)
+  pub piece-seg : isMark a ≡ false → (t : Bool) → more ≡ t → (piece more a b c d ≡ a ∷ b ∷ c ∷ d ∷ cond t (0x2E ∷ []) []) × (pieceLength more a ≡ cond t 5 4)
   unfolding piece pieceLength
-  piece-above n e = (rw (ne-eqb a 0x5C n, eq-eqb a 0x5E e), rw (ne-eqb a 0x5C n, eq-eqb a 0x5E e))
-
-  pub piece-more : (a ≡ 0x5C → ⊥) → (a ≡ 0x5E → ⊥) → more ≡ true → (piece more a b c d ≡ a ∷ b ∷ c ∷ d ∷ 0x2E ∷ []) × (pieceLength more a ≡ 5)
-  unfolding piece pieceLength
-  piece-more n m e = (rw (ne-eqb a 0x5C n, ne-eqb a 0x5E m, e), rw (ne-eqb a 0x5C n, ne-eqb a 0x5E m, e))
-
-  pub piece-last : (a ≡ 0x5C → ⊥) → (a ≡ 0x5E → ⊥) → more ≡ false → (piece more a b c d ≡ a ∷ b ∷ c ∷ d ∷ []) × (pieceLength more a ≡ 4)
-  unfolding piece pieceLength
-  piece-last n m e = (rw (ne-eqb a 0x5C n, ne-eqb a 0x5E m, e), rw (ne-eqb a 0x5C n, ne-eqb a 0x5E m, e))
+  piece-seg n t e = (rw (n, e), rw (n, e))
 
 pub piece-some : (more : Bool) (a : ℕ) → 1 ≤ pieceLength more a
 unfolding pieceLength
-piece-some more a = go (eqb a 0x5C) (eqb a 0x5E) more
+piece-some more a = go (isMark a) more
   where
-    go : (s t m : Bool) → 1 ≤ cond s 1 (cond t 1 (cond m 5 4))
-    go true t m = omega arith
-    go false true m = omega arith
-    go false false true = omega arith
-    go false false false = omega arith
+    go : (s m : Bool) → 1 ≤ cond s 1 (cond m 5 4)
+    go true m = omega arith
+    go false true = omega arith
+    go false false = omega arith
 
-pub piece-four : (more : Bool) (a : ℕ) → (a ≡ 0x5C → ⊥) → (a ≡ 0x5E → ⊥) → 4 ≤ pieceLength more a
-piece-four true a n m = omega (arith, piece-more true a 0 0 0 n m refl .1)
-piece-four false a n m = omega (arith, piece-last false a 0 0 0 n m refl .1)
+pub piece-four : (more : Bool) (a : ℕ) → isMark a ≡ false → 4 ≤ pieceLength more a
+piece-four true a n = omega (arith, piece-seg true a 0 0 0 n true refl .1)
+piece-four false a n = omega (arith, piece-seg false a 0 0 0 n false refl .1)
 
 -- the stores of a piece
 pub sets-four : (l : List ℕ) (at a b c d : ℕ) → set (set (set (set l at a) (at + 1) b) (at + 2) c) (at + 3) d ≡ sets l at (a ∷ b ∷ c ∷ d ∷ [])
@@ -103,6 +76,8 @@ sets-five l at a b c d e =
     let e₄ : at + 4 ≡ suc (suc (suc (suc at))) = omega arith in
     rw e₄ (ap (λ (k : List ℕ). set k (suc (suc (suc (suc at)))) e) (sets-four l at a b c d))
 
+-- ## The text of a path, component by component
+
 text-cons : (x : Component) (cs : List Component) → textOf (x ∷ cs) ≡ pieceOf (ltb 0 (length cs)) x ++ textOf cs
 unfolding textOf pieceOf
 text-cons root cs = refl
@@ -114,33 +89,27 @@ pub text-end : (cs : List Component) (i : ℕ) → length cs ≤ i → textOf (d
 unfolding textOf
 text-end cs i h = rw (drop-of-length-le cs h)
 
-piece-five : (more : Bool) (x : Component) → length (pieceOf more x) ≤ 5
-unfolding pieceOf
-piece-five more root = omega arith
-piece-five more up = omega arith
-piece-five true (seg a b c d) = omega arith
-piece-five false (seg a b c d) = omega arith
-
-piece-end : (x : Component) → length (pieceOf false x) ≤ 4
-unfolding pieceOf
-piece-end root = omega arith
-piece-end up = omega arith
-piece-end (seg a b c d) = omega arith
-
-text-nil : textOf [] ≡ []
-unfolding textOf
-text-nil = refl
-
 -- four bytes a component, and a dot between two at most
+piece-most : (more : Bool) (x : Component) → length (pieceOf more x) ≤ cond more 5 4
+unfolding pieceOf
+piece-most true root = omega arith
+piece-most false root = omega arith
+piece-most true up = omega arith
+piece-most false up = omega arith
+piece-most true (seg a b c d) = omega arith
+piece-most false (seg a b c d) = omega arith
+
 text-short : (x : Component) (cs : List Component) → length (textOf (x ∷ cs)) < 5 * length (x ∷ cs)
-text-short x [] = omega (arith, ap length (text-cons x []), length-append (pieceOf (ltb 0 0) x) (textOf []), ap length text-nil, piece-end x)
+text-short x [] =
+    omega (arith, ap length (text-cons x []), length-append (pieceOf false x) (textOf []), ap length (text-end [] 0 (omega arith)), piece-most false x)
 text-short x (y ∷ cs) =
-    omega (arith, ap length (text-cons x (y ∷ cs)), length-append (pieceOf (ltb 0 (length (y ∷ cs))) x) (textOf (y ∷ cs)), piece-five (ltb 0 (length (y ∷ cs))) x, text-short y cs)
+    let m : ltb 0 (length (y ∷ cs)) ≡ true = lt-ltb 0 (length (y ∷ cs)) (omega arith) in
+    omega (arith, ap length (rw m at (text-cons x (y ∷ cs))), length-append (pieceOf true x) (textOf (y ∷ cs)), piece-most true x, text-short y cs)
 
 -- at most 159 bytes for 32 components
-pub text-bound : (limit : ℕ) (cs : List Component) → 0 < limit → length cs ≤ limit → length (textOf cs) < 5 * limit
-text-bound limit [] h l = omega (arith, ap length text-nil)
-text-bound limit (x ∷ cs) h l = omega (arith, text-short x cs)
+pub text-bound : (limit : ℕ) (cs : List Component) → length cs ≤ limit → length (textOf cs) ≤ 5 * limit - 1
+text-bound limit [] l = omega (arith, ap length (text-end [] 0 (omega arith)))
+text-bound limit (x ∷ cs) l = omega (arith, text-short x cs)
 
 more-is : (i n m : ℕ) → m ≡ n - suc i → i < n → ltb 0 m ≡ ltb (i + 1) n
 more-is i n m e h = go (ltb (i + 1) n) refl
@@ -150,35 +119,28 @@ more-is i n m e h = go (ltb (i + 1) n) refl
     go false t = le-ltb 0 m (omega (arith, ltb-false (i + 1) n t))
 
 -- the next component's text
-module _ (name : AmlName) (i : ℕ) (len : length (name .bytes) ≡ 128) (ok : pathOk componentLimit name ≡ true) (h : i < name .count) where
-  inside : i < length (pathOf name)
-  inside = omega (arith, length-path name)
+module _ (name : AmlName) (i : ℕ) (h : i < name .count) where
+  abbrev pieceAt : List ℕ
+  pieceAt = piece (ltb (i + 1) (name .count)) (getD (name .bytes) (4 * i) 0) (getD (name .bytes) (4 * i + 1) 0) (getD (name .bytes) (4 * i + 2) 0) (getD (name .bytes) (4 * i + 3) 0)
 
   pub text-next :
       textOf (drop i (pathOf name))
       ≡ piece (ltb (i + 1) (name .count)) (getD (name .bytes) (4 * i) 0) (getD (name .bytes) (4 * i + 1) 0) (getD (name .bytes) (4 * i + 2) 0) (getD (name .bytes) (4 * i + 3) 0)
       ++ textOf (drop (i + 1) (pathOf name))
   text-next =
-      let f = fine-at true (pathOf name) i (path-fine componentLimit name ok .0) inside in
       let e : i + 1 ≡ suc i = omega arith in
-      let x = getD (pathOf name) i up in
       let m = more-is i (name .count) (length (drop (suc i) (pathOf name))) (length-drop (suc i) (pathOf name) ∙ ap (λ (n : ℕ). n - suc i) (length-path name)) h in
-      ap textOf (drop-cons (pathOf name) i up inside)
-      ∙ text-cons x (drop (suc i) (pathOf name))
-      ∙ ap (λ (t : Bool). pieceOf t x ++ textOf (drop (suc i) (pathOf name))) m
-      ∙ ap (λ (l : List ℕ). l ++ textOf (drop (suc i) (pathOf name))) (sym (piece-is (ltb (i + 1) (name .count)) x _ _ _ _ (f .0) (path-byte name i len ok h) (f .1)))
-      ∙ ap (λ (n : ℕ).
-      piece (ltb (i + 1) (name .count)) (getD (name .bytes) (4 * i) 0) (getD (name .bytes) (4 * i + 1) 0) (getD (name .bytes) (4 * i + 2) 0) (getD (name .bytes) (4 * i + 3) 0)
-      ++ textOf (drop n (pathOf name))) (sym e)
+      ap textOf (path-next name i h)
+      ∙ text-cons _ (drop (suc i) (pathOf name))
+      ∙ rw (m, e) (ap (λ (l : List ℕ). l ++ textOf (drop (suc i) (pathOf name))) (piece-is (ltb (suc i) (name .count)) _ _ _ _))
 
   pub length-next :
       length (textOf (drop i (pathOf name))) ≡ pieceLength (ltb (i + 1) (name .count)) (getD (name .bytes) (4 * i) 0) + length (textOf (drop (i + 1) (pathOf name)))
   length-next =
-      ap length text-next
-      ∙ length-append
-      (piece (ltb (i + 1) (name .count)) (getD (name .bytes) (4 * i) 0) (getD (name .bytes) (4 * i + 1) 0) (getD (name .bytes) (4 * i + 2) 0) (getD (name .bytes) (4 * i + 3) 0))
-      (textOf (drop (i + 1) (pathOf name)))
+      ap length text-next ∙ length-append pieceAt (textOf (drop (i + 1) (pathOf name)))
       ∙ ap (λ (n : ℕ). n + length (textOf (drop (i + 1) (pathOf name)))) (piece-length (ltb (i + 1) (name .count)) (getD (name .bytes) (4 * i) 0) _ _ _)
+
+-- ## Text in lent bytes
 
 -- what is lent, with a text at its start
 pub record Written (out old : List ℕ) (at : ℕ) (left whole : List ℕ) : Type 0 where
@@ -233,18 +195,14 @@ written-long out old whole h e = omega (arith, ap length e, length-append whole 
 pub same-wrote : {o p : List ℕ} {a b : Answer ℕ} → o ≡ p → a ≡ b → _≡_ {A = Wrote} (record { out = o; said = a }) (record { out = p; said = b })
 same-wrote e f = λ i. record { out = e i; said = f i }
 
-module _ (limit room : ℕ) (name : AmlName) where
-  pub text-fits : pathOk limit name ≡ true → length (textOf (pathOf name)) ≤ room → gives (textOf (pathOf name)) ≡ andThen (pathIn limit name) (textWithin room)
+module _ (limit room : ℕ) (name : AmlName) (ok : pathOk limit name ≡ true) where
+  pub text-fits : length (textOf (pathOf name)) ≤ room → gives (textOf (pathOf name)) ≡ andThen (pathIn limit name) (textWithin room)
   unfolding textWithin
-  text-fits h l =
-      ap (λ (t : Bool). cond t (gives (textOf (pathOf name))) (refuses 25 0)) (sym (le-leb (length (textOf (pathOf name))) room l))
-      ∙ path-good limit name (λ cs. cond (leb (length (textOf cs)) room) (gives (textOf cs)) (refuses 25 0)) h
+  text-fits l = sym (rw (le-leb _ _ l)) ∙ path-good limit name (textWithin room) ok
 
-  pub text-over : pathOk limit name ≡ true → room < length (textOf (pathOf name)) → refuses 25 0 ≡ andThen (pathIn limit name) (textWithin room)
+  pub text-over : room < length (textOf (pathOf name)) → refuses 25 0 ≡ andThen (pathIn limit name) (textWithin room)
   unfolding textWithin
-  text-over h l =
-      ap (λ (t : Bool). cond t (gives (textOf (pathOf name))) (refuses 25 0)) (sym (lt-leb (length (textOf (pathOf name))) room l))
-      ∙ path-good limit name (λ cs. cond (leb (length (textOf cs)) room) (gives (textOf cs)) (refuses 25 0)) h
+  text-over l = sym (rw (lt-leb _ _ l)) ∙ path-good limit name (textWithin room) ok
 
 pub wrote-as : (out : List ℕ) {a b : Answer (List ℕ)} {w : Wrote} → a ≡ b → w ≡ wrote out a → w ≡ wrote out b
 wrote-as out e h = h ∙ ap (wrote out) e

@@ -1,9 +1,9 @@
 -- Normalising, resolving and the parent, over the components of a path; and what the code's answers say.
-use Prim.Native.Nat.{ℕ, _-_}
+use Prim.Native.Nat.{ℕ}
 use mathlib.Core.Bool.{Bool, true, false, cond}
-use mathlib.Core.List.{List, [], _∷_, _++_}
+use mathlib.Core.List.{List, [], _∷_, _++_, reverse, dropLast}
 use lib.Dec.{leb}
-use lib.ListN.{length, take, getD}
+use lib.ListN.{length, getD}
 use Rattle.pkg_length.specs.Refusal.{Answer, gives, refuses, refused, andThen}
 use Rattle.name_object.specs.Component.{Component, root, up, seg, segOk}
 use Rattle.name_object.specs.Memory.{Named, Told}
@@ -28,8 +28,7 @@ walk s (c ∷ cs) = walk (step s c) cs
 
 -- the components in their order
 unfoldable pub upright : List Component → List Component
-upright [] = []
-upright (x ∷ done) = upright done ++ (x ∷ [])
+upright done = reverse done
 
 -- a result over `limit` components: 9
 unfoldable pub limited : ℕ → List Component → Answer (List Component)
@@ -75,7 +74,7 @@ top (seg a b c d ∷ cs) = false
 
 -- the normal form without its last segment, 12 where there is none
 unfoldable pub parentOf : ℕ → List Component → Answer (List Component)
-parentOf limit cs = andThen (normal limit cs) (λ ns. cond (top ns) (refuses 12 0) (gives (take (length ns - 1) ns)))
+parentOf limit cs = andThen (normal limit cs) (λ ns. cond (top ns) (refuses 12 0) (gives (dropLast ns)))
 
 -- four bytes as a path of one segment, 26 where they are none
 unfoldable pub segmentPath : List ℕ → Answer (List Component)

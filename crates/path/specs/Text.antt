@@ -20,8 +20,7 @@ padded bs = seg (getD bs 0 0x5F) (getD bs 1 0x5F) (getD bs 2 0x5F) (getD bs 3 0x
 
 -- one component before those that follow
 abbrev pub consed : Component → Answer (List Component) → Answer (List Component)
-consed c (gives cs) = gives (c ∷ cs)
-consed c (refuses n p) = refuses n p
+consed c r = andThen r (λ cs. gives (c ∷ cs))
 
 -- dot-separated parts from offset p on, each any number of `^` and a segment: 8 where a segment is wrong, at its start
 unfoldable pub reading : Place → ℕ → List ℕ → Answer (List Component)

@@ -1,20 +1,20 @@
 -- Text as a grammar: which bytes spell which components, written without the reader.
-use Prim.Native.Nat.{ℕ}
+use Prim.Native.Nat.{ℕ, _<_}
 use mathlib.Core.Path.{_≡_}
 use mathlib.Core.Bool.{true}
 use mathlib.Core.List.{List, [], _∷_, _++_}
-use Rattle.name_object.specs.Component.{Component, root, up, seg, leadOk, charOk}
+use lib.ListN.{length}
+use Rattle.name_object.specs.Component.{Component, root, up, leadOk, charOk}
+use Rattle.path.specs.Text.{padded}
 
--- a segment of 1 to 4 characters, the first a lead, padded with `_`
-pub data Word : Component → List ℕ → Type 0 where
-  one : {a : ℕ} → leadOk a ≡ true → Word (seg a 0x5F 0x5F 0x5F) (a ∷ [])
-  two : {a b : ℕ} → leadOk a ≡ true → charOk b ≡ true → Word (seg a b 0x5F 0x5F) (a ∷ b ∷ [])
-  three : {a b c : ℕ} → leadOk a ≡ true → charOk b ≡ true → charOk c ≡ true → Word (seg a b c 0x5F) (a ∷ b ∷ c ∷ [])
-  four : {a b c d : ℕ} → leadOk a ≡ true → charOk b ≡ true → charOk c ≡ true → charOk d ≡ true → Word (seg a b c d) (a ∷ b ∷ c ∷ d ∷ [])
+-- a segment of 1 to 4 characters: a lead, and then name characters
+pub data Word : List ℕ → Type 0 where
+  lead : {a : ℕ} → leadOk a ≡ true → Word (a ∷ [])
+  next : (b : ℕ) {s : List ℕ} → Word s → charOk b ≡ true → length s < 4 → Word (s ++ (b ∷ []))
 
--- any number of `^`, and then a segment
+-- any number of `^`, and then a segment, padded with `_`
 pub data Part : List Component → List ℕ → Type 0 where
-  word : {c : Component} {s : List ℕ} → Word c s → Part (c ∷ []) s
+  word : {s : List ℕ} → Word s → Part (padded s ∷ []) s
   above : {cs : List Component} {s : List ℕ} → Part cs s → Part (up ∷ cs) (0x5E ∷ s)
 
 -- parts, with dots between them

@@ -8,7 +8,9 @@ ghost use Rattle.name_object.specs.Memory.{nameOf, told, pathIn};
 ghost use Rattle.path.specs.Normal.{normal, resolved, parentOf, absolute, isNormal, oneSegment, segmentPath, alone, pathTold, flagSaid};
 ghost use Rattle.path.specs.Text.{Wrote, wrote, textWithin, fromText, textSaid};
 use name_object::AmlName;
+use name_object::COMPONENTS;
 use name_object::NameSeg;
+use name_object::PATH_BYTES;
 use pkg_length::AmlError;
 use text::PartsEnd;
 
@@ -17,6 +19,9 @@ pub mod inner;
 mod memory;
 mod text;
 mod valid;
+
+// The longest text of a path: four bytes for each component, and a dot between two.
+pub const TEXT_BYTES: usize = 5 * COMPONENTS - 1;
 
 pub enum PathSaid {
     Done,
@@ -71,7 +76,7 @@ pub fn from_name_seg(seg: NameSeg) -> PathAnswer
 }
 
 // Any count and bytes. The Rust asserts that there is a component; here the empty path is a path.
-pub fn from_components(count: usize, bytes: [u8; 128]) -> PathAnswer
+pub fn from_components(count: usize, bytes: [u8; PATH_BYTES]) -> PathAnswer
     ensures { λ r. ⌜ pathTold r ≡ told componentLimit (alone (pathIn componentLimit (record { count = count; bytes = bytes }))) ⌝ }
 {
     if valid::holds_path(count, &bytes) {
@@ -90,24 +95,18 @@ pub fn from_str(text: &[u8]) -> PathAnswer
     if text.len() == 0 {
         return refuse(AmlError::EmptyNamesAreInvalid);
     }
-    let mut bytes = [0; 128];
-    if text[0] == b'\\' {
-        memory::put(&mut bytes, 0, 0x5C, 0, 0, 0);
-        if text.len() == 1 {
-            return memory::finish(bytes, 1);
-        }
-        return match text::read_parts(&mut bytes, text, 1, 1) {
-            PartsEnd::Count(n) => memory::finish(bytes, n),
-            PartsEnd::Wrong(p) => refuse(AmlError::InvalidNameSeg(p)),
-        };
+    let mut bytes = [0; PATH_BYTES];
+    let have = text::read_root(&mut bytes, text[0]);
+    if text.len() == have {
+        return memory::finish(bytes, have);
     }
-    match text::read_parts(&mut bytes, text, 0, 0) {
+    match text::read_parts(&mut bytes, text, have) {
         PartsEnd::Count(n) => memory::finish(bytes, n),
         PartsEnd::Wrong(p) => refuse(AmlError::InvalidNameSeg(p)),
     }
 }
 
-// The text of a path, at the start of `out`; the answer gives its length, at most 159.
+// The text of a path, at the start of `out`; the answer gives its length, at most TEXT_BYTES.
 pub fn as_string(name: AmlName, out: &mut [u8]) -> TextAnswer
     ensures { λ r. ⌜ record { out = now (out .exit); said = textSaid r } ≡ wrote (now (out .entry)) (andThen (pathIn componentLimit name) (textWithin (length (now (out .entry))))) ⌝ }
 {
@@ -186,9 +185,20 @@ pub fn resolve(name: AmlName, scope: AmlName) -> PathAnswer
 pub fn parent(name: AmlName) -> PathAnswer
     ensures { λ r. ⌜ pathTold r ≡ told componentLimit (alone (andThen (pathIn componentLimit name) (parentOf componentLimit))) ⌝ }
 {
-    let count = name.count;
-    if valid::holds_path(count, &name.bytes) {
-        return climb::parent(&name.bytes, count);
+    let whole = normalize(name);
+    let said = whole.said;
+    match said {
+        PathSaid::Refused(_) => whole,
+        PathSaid::Done => {
+            let normal = whole.name;
+            let count = normal.count;
+            if valid::is_top(count, &normal.bytes) {
+                return refuse(AmlError::RootHasNoParent);
+            }
+            PathAnswer {
+                name: name_object::inner::pop(normal),
+                said: PathSaid::Done,
+            }
+        }
     }
-    refuse(AmlError::BadPath)
 }

@@ -1,5 +1,5 @@
-// A path in the making: 128 bytes and a count. The first 32 components are kept; those above them are only counted, since no path has them.
-// So a join may pass through more than 32 components on its way, and a text is read to its end before 9 is judged.
+// A path in the making: bytes and a count. The first components are kept, as many as a path may have; those above them are only counted.
+// So a join may pass through more components on its way, and a text is read to its end before 9 is judged.
 ghost use mathlib.Core.Path.{_≡_};
 ghost use mathlib.Core.List.{List};
 ghost use Prim.Native.Nat.{ℕ, _<_};
@@ -11,13 +11,15 @@ ghost use Rattle.path.specs.Inside.{shown, placed, placedChar};
 use crate::PathAnswer;
 use crate::PathSaid;
 use name_object::AmlName;
+use name_object::COMPONENTS;
+use name_object::PATH_BYTES;
 use pkg_length::AmlError;
 
 // Component k, where there is room for it.
-pub(crate) fn put(out: &mut [u8; 128], k: usize, a: u8, b: u8, c: u8, d: u8)
+pub(crate) fn put(out: &mut [u8; PATH_BYTES], k: usize, a: u8, b: u8, c: u8, d: u8)
     ensures { λ r. ⌜ now (out .exit) ≡ placed componentLimit (now (out .entry)) k a b c d ⌝ }
 {
-    if k < 32 {
+    if k < COMPONENTS {
         let at = 4 * k;
         out[at] = a;
         out[at + 1] = b;
@@ -27,20 +29,20 @@ pub(crate) fn put(out: &mut [u8; 128], k: usize, a: u8, b: u8, c: u8, d: u8)
 }
 
 // Byte j of component k.
-pub(crate) fn put_char(out: &mut [u8; 128], k: usize, j: usize, b: u8)
+pub(crate) fn put_char(out: &mut [u8; PATH_BYTES], k: usize, j: usize, b: u8)
     requires { ⌜ j < 4 ⌝ }
     ensures { λ r. ⌜ now (out .exit) ≡ placedChar componentLimit (now (out .entry)) k j b ⌝ }
 {
-    if k < 32 {
+    if k < COMPONENTS {
         out[4 * k + j] = b;
     }
 }
 
 // The path that was made.
-pub(crate) fn finish(bytes: [u8; 128], count: usize) -> PathAnswer
+pub(crate) fn finish(bytes: [u8; PATH_BYTES], count: usize) -> PathAnswer
     ensures { λ r. ⌜ ((cs : List Component) → bytes ≡ shown componentLimit cs → count ≡ length cs → pathTold r ≡ told componentLimit (alone (limited componentLimit cs))) ⌝ }
 {
-    if 32 < count {
+    if COMPONENTS < count {
         return crate::refuse(AmlError::TooManyComponents);
     }
     PathAnswer {

@@ -1,16 +1,15 @@
 // Paths as text: what `from_str` and `as_string` do, byte by byte.
 ghost use mathlib.Core.Path.{_≡_};
-ghost use mathlib.Core.Bool.{true};
 ghost use mathlib.Core.List.{List, [], _++_};
-ghost use Prim.Native.Nat.{ℕ, _+_, _*_, _<_, _≤_};
+ghost use Prim.Native.Nat.{_+_, _<_, _≤_};
 ghost use lib.ListN.{length, drop};
 ghost use lib.Seq.{sets};
-ghost use Rattle.pkg_length.specs.Refusal.{Answer};
 ghost use Rattle.name_object.specs.Component.{Component, componentLimit};
-ghost use Rattle.name_object.specs.Memory.{pathOk, pathOf};
+ghost use Rattle.name_object.specs.Memory.{pathOf};
 ghost use Rattle.path.specs.Text.{textOf, reading, before};
-ghost use Rattle.path.specs.Inside.{nameIn, shown, Turns, Ended, after, piece, pieceLength};
+ghost use Rattle.path.specs.Inside.{nameIn, shown, rootOf, Turns, Ended, after, piece, pieceLength};
 use crate::memory;
+use name_object::PATH_BYTES;
 
 // A reader of text: components read, and characters of a segment that is begun; none before a segment.
 pub struct Reading {
@@ -29,34 +28,26 @@ pub enum PartsEnd {
     Wrong(usize),
 }
 
-// A byte where a `^` or a segment may start. A segment is padded as it starts.
-fn read_start(out: &mut [u8; 128], count: usize, b: u8) -> Turn
-    requires { ⌜ count < 0xFFFFFFFFFFFFFFFF ⌝ }
-    ensures { λ r. ⌜ Turns (now (out .entry)) (record { count = count; chars = 0 }) b (now (out .exit)) r ⌝ }
-{
-    if b == b'^' {
-        memory::put(out, count, b, 0, 0, 0);
-        return Turn::On(Reading {
-            count: count + 1,
-            chars: 0,
-        });
-    }
-    if name_object::is_lead_name_char(b) {
-        memory::put(out, count, b, b'_', b'_', b'_');
-        return Turn::On(Reading { count, chars: 1 });
-    }
-    Turn::Wrong
-}
-
-// One byte more.
-fn read_byte(out: &mut [u8; 128], s: Reading, b: u8) -> Turn
+// One byte more. A segment is padded as it starts.
+fn read_byte(out: &mut [u8; PATH_BYTES], s: Reading, b: u8) -> Turn
     requires { ⌜ s .count < 0xFFFFFFFFFFFFFFFF ⌝ }
-    ensures { λ r. ⌜ Turns (now (out .entry)) s b (now (out .exit)) r ⌝ }
+    ensures { λ r. ⌜ Turns componentLimit (now (out .entry)) s b (now (out .exit)) r ⌝ }
 {
     let count = s.count;
     let chars = s.chars;
     if chars == 0 {
-        return read_start(out, count, b);
+        if b == b'^' {
+            memory::put(out, count, b, 0, 0, 0);
+            return Turn::On(Reading {
+                count: count + 1,
+                chars: 0,
+            });
+        }
+        if name_object::is_lead_name_char(b) {
+            memory::put(out, count, b, b'_', b'_', b'_');
+            return Turn::On(Reading { count, chars: 1 });
+        }
+        return Turn::Wrong;
     }
     if b == b'.' {
         return Turn::On(Reading {
@@ -76,14 +67,25 @@ fn read_byte(out: &mut [u8; 128], s: Reading, b: u8) -> Turn
     Turn::Wrong
 }
 
-// Dot-separated parts from an offset on, behind the components that are there.
-pub(crate) fn read_parts(out: &mut [u8; 128], text: &[u8], from: usize, have: usize) -> PartsEnd
-    requires { ⌜ (have ≤ from) × (from ≤ length (now text)) ⌝ }
-    ensures { λ r. ⌜ ((done : List Component) → now (out .entry) ≡ shown componentLimit done → have ≡ length done →
-        Ended (now (out .exit)) r (after done (reading before from (drop from (now (text .entry)))))) ⌝ }
+// A `\` at the front, where there is one: how many components that is, and bytes of text.
+pub(crate) fn read_root(out: &mut [u8; PATH_BYTES], b: u8) -> usize
+    ensures { λ r. ⌜ (r ≡ length (rootOf b)) × (now (out .entry) ≡ shown componentLimit [] → now (out .exit) ≡ shown componentLimit (rootOf b)) ⌝ }
+{
+    if b == b'\\' {
+        memory::put(out, 0, 0x5C, 0, 0, 0);
+        return 1;
+    }
+    0
+}
+
+// Dot-separated parts from an offset on, behind as many components.
+pub(crate) fn read_parts(out: &mut [u8; PATH_BYTES], text: &[u8], from: usize) -> PartsEnd
+    requires { ⌜ from ≤ length (now text) ⌝ }
+    ensures { λ r. ⌜ ((done : List Component) → now (out .entry) ≡ shown componentLimit done → from ≡ length done →
+        Ended componentLimit (now (out .exit)) r (after done (reading before from (drop from (now (text .entry)))))) ⌝ }
 {
     let mut s = Reading {
-        count: have,
+        count: from,
         chars: 0,
     };
     let mut i = from;
@@ -108,10 +110,7 @@ pub(crate) fn read_parts(out: &mut [u8; 128], text: &[u8], from: usize, have: us
 fn piece_length(more: bool, a: u8) -> usize
     ensures { λ r. ⌜ r ≡ pieceLength more a ⌝ }
 {
-    if a == 0x5C {
-        return 1;
-    }
-    if a == 0x5E {
+    if (a == 0x5C) | (a == 0x5E) {
         return 1;
     }
     if more {
@@ -121,8 +120,8 @@ fn piece_length(more: bool, a: u8) -> usize
 }
 
 // How many bytes the text of a path has.
-pub(crate) fn text_length(bytes: &[u8; 128], count: usize) -> usize
-    requires { ⌜ (length (now bytes) ≡ 128) × (pathOk componentLimit (nameIn count (now bytes)) ≡ true) ⌝ }
+pub(crate) fn text_length(bytes: &[u8; PATH_BYTES], count: usize) -> usize
+    requires { ⌜ count ≤ componentLimit ⌝ }
     ensures { λ r. ⌜ r ≡ length (textOf (pathOf (nameIn count (now (bytes .entry))))) ⌝ }
 {
     let mut n = 0;
@@ -140,10 +139,7 @@ fn write_piece(out: &mut [u8], at: usize, more: bool, a: u8, b: u8, c: u8, d: u8
     ensures { λ r. ⌜ (now (out .exit) ≡ sets (now (out .entry)) at (piece more a b c d)) × (r ≡ at + pieceLength more a) ⌝ }
 {
     out[at] = a;
-    if a == 0x5C {
-        return at + 1;
-    }
-    if a == 0x5E {
+    if (a == 0x5C) | (a == 0x5E) {
         return at + 1;
     }
     out[at + 1] = b;
@@ -157,8 +153,8 @@ fn write_piece(out: &mut [u8], at: usize, more: bool, a: u8, b: u8, c: u8, d: u8
 }
 
 // The text of a path, at the start of what is lent.
-pub(crate) fn write_text(out: &mut [u8], bytes: &[u8; 128], count: usize)
-    requires { ⌜ (length (now bytes) ≡ 128) × (pathOk componentLimit (nameIn count (now bytes)) ≡ true) × (length (textOf (pathOf (nameIn count (now bytes)))) ≤ length (now out)) ⌝ }
+pub(crate) fn write_text(out: &mut [u8], bytes: &[u8; PATH_BYTES], count: usize)
+    requires { ⌜ (count ≤ componentLimit) × (length (textOf (pathOf (nameIn count (now bytes)))) ≤ length (now out)) ⌝ }
     ensures { λ r. ⌜ now (out .exit) ≡ textOf (pathOf (nameIn count (now (bytes .entry)))) ++ drop (length (textOf (pathOf (nameIn count (now (bytes .entry)))))) (now (out .entry)) ⌝ }
 {
     let mut at = 0;

@@ -10,11 +10,6 @@ use lib.ListN.{length, take, drop}
 use lib.Seq.{slice, take-add, drop-at, length-take-le}
 use borrow.Author.Tests.{ltb-true, ltb-false}
 
--- both halves of a test
-pub both : (t u : Bool) → t && u ≡ true → (t ≡ true) × (u ≡ true)
-both true u h = (refl, h)
-both false u h = absurd (let y : false ≡ true = h in let z : _≡_ {A = ℕ} 0 1 = cc in omega arith)
-
 pub lt-or-le : (m n : ℕ) → (m < n) ⊎ (n ≤ m)
 lt-or-le m n = go (ltb m n) refl
   where

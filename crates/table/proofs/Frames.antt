@@ -8,12 +8,13 @@ use lib.Dec.{leb, ltb, eqb}
 use lib.ListN.{length, getD, set, length-append, length-take, length-set, List·getD-append}
 use lib.Seq.{getD-at, getD-set-same, getD-set-other}
 use borrow.Author.Tests.{eq-eqb, ne-eqb, eqb-true, leb-false, lt-leb, lt-ltb, le-ltb, ltb-true, ltb-false}
+use Rattle.pkg_length.proofs.Answers.{halves}
 use Rattle.pkg_length.specs.Refusal.{Answer, gives, refuses, andThen}
 use Rattle.table.specs.Limits.{Limits}
 use Rattle.table.specs.Tree.{Binding, Forest, none, level, Tree, Level, isLive, bound, levelCount}
 use Rattle.table.specs.Memory.{Edited}
 use Rattle.table.specs.Edits.{levelAt, Change, alter, scopeOf, lastOf, hasLevel, insertLevel, insertBinding, withChild, withBinding, without, withLevels, withObjects, nextHandle, handleIn, isBound, addLevel, removeLevel, lookUp, bind, addValue, addAlias, valueOf, setValue}
-use Rattle.table.proofs.Facts.{clash, both}
+use Rattle.table.proofs.Facts.{clash}
 use Rattle.table.proofs.Shape.{Valid}
 use Rattle.table.proofs.Whole.{Whole}
 use Rattle.table.proofs.Seek.{late}
@@ -68,8 +69,8 @@ under-both [] [] h k = refl
 under-both [] (y ∷ q) h k = clash (sym k)
 under-both (x ∷ p) [] h k = clash (sym h)
 under-both (x ∷ p) (y ∷ q) h k =
-    let a = both (eqb x y) (under p q) h in
-    let b = both (eqb y x) (under q p) k in
+    let a = halves (eqb x y) (under p q) h in
+    let b = halves (eqb y x) (under q p) k in
     let e = under-both p q (a .1) (b .1) in
     λ i. eqb-true x y (a .0) i ∷ e i
 

@@ -8,8 +8,8 @@ use lib.Dec.{eqb}
 use lib.ListN.{length, take, drop, getD, replicate, length-append, length-drop, take-append-drop}
 use lib.Seq.{take-at, drop-at, getD-drop, length-take-le, drop-drop}
 use borrow.Author.Tests.{eq-eqb, eqb-true}
+use Rattle.pkg_length.proofs.Answers.{halves}
 use Rattle.pkg_length.specs.Refusal.{gives, refuses}
-use Rattle.table.proofs.Facts.{both}
 use Rattle.table.specs.Limits.{Limits}
 use Rattle.table.specs.Tree.{Forest, none, level, Tree, bound, isLive}
 use Rattle.table.specs.Layout.{bindWord, bindingOf, flat, pad, encode}
@@ -31,7 +31,7 @@ unfolding same
 same-true [] [] h = refl
 same-true [] (y ∷ ys) h = clash (sym h)
 same-true (x ∷ xs) [] h = clash (sym h)
-same-true (x ∷ xs) (y ∷ ys) h = let g = both (eqb x y) (same xs ys) h in ap₂ {C = List ℕ} _∷_ (eqb-true x y (g .0)) (same-true xs ys (g .1))
+same-true (x ∷ xs) (y ∷ ys) h = let g = halves (eqb x y) (same xs ys) h in ap₂ {C = List ℕ} _∷_ (eqb-true x y (g .0)) (same-true xs ys (g .1))
 
 -- the words of a tree, part by part
 unfoldable pub levelPart : Limits → Tree → List ℕ
@@ -158,7 +158,7 @@ means-encode m t hm v = let w = valid-whole m t v in rw (encode-formed m hm t w,
 
 pub formed-whole : (m : Limits) (ws : List ℕ) → wellFormed m ws ≡ true → (valid m (decode m ws) ≡ true) × (ws ≡ encode m (decode m ws))
 unfolding wellFormed
-formed-whole m ws h = let g = both (valid m (decode m ws)) _ h in (g .0, sym (same-true _ _ (g .1)))
+formed-whole m ws h = let g = halves (valid m (decode m ws)) _ h in (g .0, sym (same-true _ _ (g .1)))
 
 -- words that mean a tree are the words of that tree, and it is valid
 pub means-whole : (m : Limits) (ws : List ℕ) (t : Tree) → means m ws ≡ gives t → (valid m t ≡ true) × (ws ≡ encode m t)

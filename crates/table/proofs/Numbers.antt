@@ -7,11 +7,12 @@ use Prim.Native.Nat.{ℕ, _+_, _*_, _/_, _%_, _^_, _<_, _≤_}
 use native.Mathlib.Omega.{arith}
 use lib.Dec.{leb, ltb, eqb}
 use borrow.Author.Tests.{eqb-true, leb-true, ltb-true, le-leb, lt-leb, lt-ltb, le-ltb, eq-eqb, ne-eqb}
+use Rattle.pkg_length.proofs.Answers.{halves}
+use Rattle.name_object.proofs.Paths.{seg-chars}
 use Rattle.name_object.specs.Component.{Component, seg, leadOk, digitOk, charOk, segOk}
-use Rattle.name_object.proofs.Paths.{both}
 use Rattle.table.specs.Tree.{charNumber, number}
 use Rattle.table.specs.Valid.{segmentOk}
-use Rattle.table.proofs.Facts.{both as both-of, lt-or-le}
+use Rattle.table.proofs.Facts.{lt-or-le}
 
 -- the character of a number, and a segment's four
 unfoldable pub charOf : ℕ → ℕ
@@ -33,7 +34,7 @@ lead-is c h = go (eqb c 0x5F) refl
     go : (t : Bool) → eqb c 0x5F ≡ t → Char c (charNumber c) × (10 ≤ charNumber c)
     go true e = rw (eqb-true c 0x5F e) (line refl refl, omega arith)
     go false e =
-        let g = both (leb 0x41 c) (leb c 0x5A) (rw e at h) in
+        let g = halves (leb 0x41 c) (leb c 0x5A) (rw e at h) in
         let l = leb-true 0x41 c (g .0) in
         let u = leb-true c 0x5A (g .1) in
         rw (le-ltb c 0x3A (omega arith), lt-ltb c 0x5B (omega arith)) (letter (omega arith) (omega arith) (omega arith), omega arith)
@@ -45,7 +46,7 @@ char-is c h = go (leadOk c) refl
     go : (t : Bool) → leadOk c ≡ t → Char c (charNumber c)
     go true e = lead-is c e .0
     go false e =
-        let g = both (leb 0x30 c) (leb c 0x39) (rw e at h) in
+        let g = halves (leb 0x30 c) (leb c 0x39) (rw e at h) in
         let l = leb-true 0x30 c (g .0) in
         let u = leb-true c 0x39 (g .1) in
         rw (lt-ltb c 0x3A (omega arith)) (digit (omega arith) (omega arith))
@@ -99,12 +100,9 @@ record Four (a b c d : ℕ) : Type 0 where
   fourth : Char d (charNumber d)
 
 four : (a b c d : ℕ) → segOk a b c d ≡ true → Four a b c d
-unfolding segOk
 four a b c d h =
-    let x = both (leadOk a) _ h in
-    let y = both (charOk b) _ (x .1) in
-    let z = both (charOk c) (charOk d) (y .1) in
-    record { first = lead-is a (x .0) .0; lead = lead-is a (x .0) .1; second = char-is b (y .0); third = char-is c (z .0); fourth = char-is d (z .1) }
+    let s = seg-chars a b c d h in
+    record { first = lead-is a (s .0) .0; lead = lead-is a (s .0) .1; second = char-is b (s .1); third = char-is c (s .2); fourth = char-is d (s .3) }
 
 char-low : (c : ℕ) → charNumber c < 37
 unfolding charNumber
@@ -116,7 +114,7 @@ number-low a b c d = omega (arith, char-low a, char-low b, char-low c, char-low 
 
 pub segment-range : (s : ℕ) → segmentOk s ≡ true → (10 * 37 ^ 3 ≤ s) × (s < 37 ^ 4)
 unfolding segmentOk
-segment-range s h = let g = both-of (leb (10 * 37 ^ 3) s) (ltb s (37 ^ 4)) h in (leb-true (10 * 37 ^ 3) s (g .0), ltb-true s (37 ^ 4) (g .1))
+segment-range s h = let g = halves (leb (10 * 37 ^ 3) s) (ltb s (37 ^ 4)) h in (leb-true (10 * 37 ^ 3) s (g .0), ltb-true s (37 ^ 4) (g .1))
 
 -- a segment's number is one of a segment
 pub number-ok : (a b c d : ℕ) → segOk a b c d ≡ true → segmentOk (number a b c d) ≡ true

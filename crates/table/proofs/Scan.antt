@@ -8,10 +8,10 @@ use lib.Dec.{leb}
 use lib.ListN.{length, take, drop, getD, length-map}
 use lib.Seq.{length-take-le}
 use borrow.Author.Tests.{le-leb, eq-eqb, ne-eqb, leb-true}
+use Rattle.pkg_length.proofs.Answers.{halves}
 use Rattle.name_object.specs.Memory.{allZero}
 use Rattle.table.specs.Layout.{rankOf, typeOf, countOf, segOf, bindingOf}
 use Rattle.table.specs.Inside.{wordOk, bindsOk, recordOk, noted, scan}
-use Rattle.table.proofs.Facts.{both}
 use Rattle.table.proofs.Shape.{LevelFit, fit}
 
 -- what holds of a record that passes
@@ -39,10 +39,10 @@ module _ (limit : ℕ) (live : ℕ → Bool) (p : ℕ) (low : List ℕ) (w : ℕ
       → Passes limit live p low w bs × (scan limit live (rankOf w) (noted low w) ws (drop (countOf w) bs) ≡ true)
   unfolding scan recordOk bindsOk
   scan-true n e =
-      let o = both (recordOk limit live p low w bs) _ (rw (ne-eqb w 0 n) at e) in
-      let b = both _ (bindsOk live (countOf w) bs) (o .0) in
-      let a = both (leb (rankOf w) (p + 1)) (wordOk limit (getD low (rankOf w) 0) w) (b .0) in
-      let d = both (leb (countOf w) (length bs)) _ (b .1) in
+      let o = halves (recordOk limit live p low w bs) _ (rw (ne-eqb w 0 n) at e) in
+      let b = halves _ (bindsOk live (countOf w) bs) (o .0) in
+      let a = halves (leb (rankOf w) (p + 1)) (wordOk limit (getD low (rankOf w) 0) w) (b .0) in
+      let d = halves (leb (countOf w) (length bs)) _ (b .1) in
       let held : countOf w ≤ length bs = leb-true _ _ (d .0) in (
         record {
           step = leb-true _ _ (a .0);

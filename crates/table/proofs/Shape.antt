@@ -7,9 +7,9 @@ use native.Mathlib.Omega.{arith}
 use lib.Dec.{leb, ltb, eqb}
 use lib.ListN.{length}
 use borrow.Author.Tests.{ltb-true, leb-true, eqb-true, lt-ltb, le-leb}
+use Rattle.pkg_length.proofs.Answers.{halves}
 use Rattle.table.specs.Tree.{Binding, Forest, none, level}
 use Rattle.table.specs.Valid.{segmentOk, rising, nameOk, countOk, levelOk, forestOk}
-use Rattle.table.proofs.Facts.{both}
 use Rattle.table.proofs.Numbers.{segment-range}
 
 pub clash : {A : Type 0} → true ≡ false → A
@@ -29,9 +29,9 @@ pub record BindingTests (live : ℕ → Bool) (lo : ℕ) (b : Binding) (bs : Lis
 pub binding-tests : (live : ℕ → Bool) (lo : ℕ) (b : Binding) (bs : List Binding) → rising live lo (b ∷ bs) ≡ true → BindingTests live lo b bs
 unfolding rising
 binding-tests live lo b bs h =
-    let x = both _ (rising live (suc (b .segment)) bs) h in
-    let y = both _ (live (b .handle)) (x .0) in
-    let z = both (leb lo (b .segment)) (segmentOk (b .segment)) (y .0) in
+    let x = halves _ (rising live (suc (b .segment)) bs) h in
+    let y = halves _ (live (b .handle)) (x .0) in
+    let z = halves (leb lo (b .segment)) (segmentOk (b .segment)) (y .0) in
     record { rises = leb-true _ _ (z .0); named = z .1; alive = y .1; later = x .1 }
 
 pub tests-binding : (live : ℕ → Bool) (lo : ℕ) (b : Binding) (bs : List Binding) → BindingTests live lo b bs → rising live lo (b ∷ bs) ≡ true
@@ -52,8 +52,8 @@ name-range : (r s t : ℕ) → nameOk r s t ≡ true → (s < 2 ^ 32) × (t < 8)
 name-range r s t h = go (eqb r 1) h
   where
     go : (x : Bool) → cond x (eqb s 0 && eqb t 0) (segmentOk s && ltb t 6) ≡ true → (s < 2 ^ 32) × (t < 8)
-    go true h = let g = both (eqb s 0) (eqb t 0) h in omega (arith, eqb-true s 0 (g .0), eqb-true t 0 (g .1))
-    go false h = let g = both (segmentOk s) (ltb t 6) h in omega (arith, segment-range s (g .0), ltb-true t 6 (g .1))
+    go true h = let g = halves (eqb s 0) (eqb t 0) h in omega (arith, eqb-true s 0 (g .0), eqb-true t 0 (g .1))
+    go false h = let g = halves (segmentOk s) (ltb t 6) h in omega (arith, segment-range s (g .0), ltb-true t 6 (g .1))
 
 count-range : (limit r n : ℕ) → countOk limit r n ≡ true → n < 1024
 count-range limit r n h = go (ltb r limit) h
@@ -73,10 +73,10 @@ pub record LevelTests (limit r lo s t n : ℕ) : Type 0 where
 pub level-tests : (limit r lo s t n : ℕ) → levelOk limit r lo s t n ≡ true → LevelTests limit r lo s t n
 unfolding levelOk
 level-tests limit r lo s t n h =
-    let a = both _ (countOk limit r n) h in
-    let b = both _ (nameOk r s t) (a .0) in
-    let c = both _ (leb lo s) (b .0) in
-    let d = both (ltb 0 r) (leb r limit) (c .0) in
+    let a = halves _ (countOk limit r n) h in
+    let b = halves _ (nameOk r s t) (a .0) in
+    let c = halves _ (leb lo s) (b .0) in
+    let d = halves (ltb 0 r) (leb r limit) (c .0) in
     record { ranked = ltb-true 0 r (d .0); shallow = leb-true r limit (d .1); rises = leb-true lo s (c .1); named = b .1; counted = a .1 }
 
 pub tests-level : (limit r lo s t n : ℕ) → LevelTests limit r lo s t n → levelOk limit r lo s t n ≡ true
@@ -98,9 +98,9 @@ pub forest-valid : (limit : ℕ) (live : ℕ → Bool) (r lo : ℕ) (f : Forest)
 unfolding forestOk
 forest-valid limit live r lo none h = tt
 forest-valid limit live r lo (level s t b kids next) h =
-    let x = both _ (forestOk limit live r (suc s) next) h in
-    let y = both _ (forestOk limit live (suc r) 0 kids) (x .0) in
-    let z = both (levelOk limit r lo s t (length b)) (rising live 0 b) (y .0) in
+    let x = halves _ (forestOk limit live r (suc s) next) h in
+    let y = halves _ (forestOk limit live (suc r) 0 kids) (x .0) in
+    let z = halves (levelOk limit r lo s t (length b)) (rising live 0 b) (y .0) in
     (fit limit live r lo s t b (z .0) (z .1), forest-valid limit live (suc r) 0 kids (y .1), forest-valid limit live r (suc s) next (x .1))
 
 pub valid-forest : (limit : ℕ) (live : ℕ → Bool) (r lo : ℕ) (f : Forest) → Valid limit live r lo f → forestOk limit live r lo f ≡ true

@@ -12,12 +12,12 @@ use lib.ListN.{length, take, drop, getD, set, replicate, length-set, take-append
 use lib.Seq.{getD-set-same, getD-set-other, length-take-le}
 use borrow.Author.Tests.{eqb-true, eqb-false}
 use Rattle.name_object.specs.Memory.{allZero}
-use Rattle.name_object.proofs.Paths.{both}
+use Rattle.pkg_length.proofs.Answers.{halves}
 use Rattle.table.specs.Tree.{Binding, Forest, none, level, bound}
 use Rattle.table.specs.Layout.{pack, rankOf, typeOf, countOf, segOf, bindWord, bindingOf, flat}
 use Rattle.table.specs.Memory.{siblings}
 use Rattle.table.specs.Inside.{noted, scan}
-use Rattle.table.proofs.Facts.{both as both-of, lt-or-le}
+use Rattle.table.proofs.Facts.{lt-or-le}
 use Rattle.table.proofs.Words.{pack-unpack, words-back, map-take, map-drop}
 use Rattle.table.proofs.Shape.{Valid}
 use Rattle.table.proofs.Decode.{deeper, here, above}
@@ -116,7 +116,7 @@ module _ (w : ℕ) (ws bs : List ℕ) where
 pub zeros-are : (bs : List ℕ) → allZero bs ≡ true → bs ≡ replicate (length bs) 0
 unfolding allZero
 zeros-are [] e = refl
-zeros-are (b ∷ bs) e = let a = both (eqb b 0) (allZero bs) e in ap₂ {C = List ℕ} _∷_ (eqb-true b 0 (a .0)) (zeros-are bs (a .1))
+zeros-are (b ∷ bs) e = let a = halves (eqb b 0) (allZero bs) e in ap₂ {C = List ℕ} _∷_ (eqb-true b 0 (a .0)) (zeros-are bs (a .1))
 
 -- how many ranks lie above
 split : (p m : ℕ) → m ≤ p → p ≡ (p - m) + m
@@ -228,7 +228,7 @@ module _ (limit : ℕ) (live : ℕ → Bool) (w : ℕ) (ws : List ℕ) (ih : (p 
   sound-word : (t : Bool) → eqb w 0 ≡ t → (p : ℕ) (low bs : List ℕ) → length low ≡ limit + 2 → scan limit live p low (w ∷ ws) bs ≡ true → Good limit live p low (w ∷ ws) bs
   sound-word true z p low bs hl e =
       let x = eqb-true w 0 z in
-      let y = both-of (allZero ws) (allZero bs) (sym (scan-zero limit live p low w ws bs x) ∙ e) in
+      let y = halves (allZero ws) (allZero bs) (sym (scan-zero limit live p low w ws bs x) ∙ e) in
       good-zero limit live w ws p low bs hl x (y .0) (y .1)
   sound-word false z p low bs hl e =
       let x = scan-true limit live p low w ws bs (eqb-false w 0 z) e in

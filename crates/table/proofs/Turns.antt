@@ -10,8 +10,9 @@ use lib.Dec.{leb, ltb, eqb}
 use lib.ListN.{length, take, drop, getD, set, replicate, length-drop, drop-of-length-le}
 use lib.Seq.{drop-cons, slice, slice-cons, slice-empty, drop-drop, take-suc-set, take-all}
 use borrow.Author.Tests.{le-leb, lt-leb, lt-ltb, le-ltb, eq-eqb, ne-eqb, leb-true, ltb-true, ltb-false, eqb-true, eqb-false}
+use Rattle.pkg_length.proofs.Answers.{halves}
 use Rattle.name_object.specs.Memory.{allZero}
-use Rattle.table.proofs.Facts.{both, take-slice}
+use Rattle.table.proofs.Facts.{take-slice}
 use Rattle.table.specs.Limits.{Limits}
 use Rattle.table.specs.Tree.{Binding}
 use Rattle.table.specs.Layout.{rankOf, typeOf, countOf, segOf, bindingOf}
@@ -186,9 +187,9 @@ pub record Passed (limit w f : ℕ) (l : List ℕ) : Type 0 where
 pub passed : (limit : ℕ) (live : ℕ → Bool) (p : ℕ) (low : List ℕ) (w f : ℕ) (l : List ℕ) → recordOk limit live p low w (drop f l) ≡ true → Passed limit w f l
 unfolding recordOk bindsOk
 passed limit live p low w f l h =
-    let b = both (leb (rankOf w) (p + 1) && wordOk limit (getD low (rankOf w) 0) w) (bindsOk live (countOf w) (drop f l)) h in
-    let a = both (leb (rankOf w) (p + 1)) (wordOk limit (getD low (rankOf w) 0) w) (b .0) in
-    let c = both (leb (countOf w) (length (drop f l))) _ (b .1) in
+    let b = halves (leb (rankOf w) (p + 1) && wordOk limit (getD low (rankOf w) 0) w) (bindsOk live (countOf w) (drop f l)) h in
+    let a = halves (leb (rankOf w) (p + 1)) (wordOk limit (getD low (rankOf w) 0) w) (b .0) in
+    let c = halves (leb (countOf w) (length (drop f l))) _ (b .1) in
     record {
       rank = level-tests limit (rankOf w) (getD low (rankOf w) 0) (segOf w) (typeOf w) (countOf w) (a .1) .shallow;
       room = omega (arith, leb-true (countOf w) (length (drop f l)) (c .0), length-drop f l);

@@ -8,8 +8,8 @@ use lib.Dec.{eqb, leb}
 use lib.ListN.{length, take, drop, getD, replicate, length-append, length-replicate, length-map, take-append-drop}
 use lib.Seq.{drop-at, length-take-le}
 use borrow.Author.Tests.{ne-eqb, le-leb, eqb-false, leb-true, ltb-true}
+use Rattle.pkg_length.proofs.Answers.{halves}
 use Rattle.name_object.specs.Memory.{allZero}
-use Rattle.table.proofs.Facts.{both}
 use Rattle.table.specs.Limits.{Limits}
 use Rattle.table.specs.Tree.{Binding, Forest, none, level, Tree, bound, levelCount, isLive}
 use Rattle.table.specs.Layout.{pack, bindWord, flat, pad}
@@ -39,10 +39,10 @@ small-handles m t w hm h e = omega (arith, w .objects, ltb-true h (length (t .ob
 pub valid-whole : (m : Limits) (t : Tree) → valid m t ≡ true → Whole m t
 unfolding valid
 valid-whole m t h =
-    let a = both _ (leb (length (t .objects)) (m .objects)) h in
-    let b = both _ (leb (length (bound (t .levels))) (m .bindings)) (a .0) in
-    let c = both _ (leb (levelCount (t .levels)) (m .levels)) (b .0) in
-    let d = both (some (t .levels)) (forestOk (m .components) (isLive t) 1 0 (t .levels)) (c .0) in
+    let a = halves _ (leb (length (t .objects)) (m .objects)) h in
+    let b = halves _ (leb (length (bound (t .levels))) (m .bindings)) (a .0) in
+    let c = halves _ (leb (levelCount (t .levels)) (m .levels)) (b .0) in
+    let d = halves (some (t .levels)) (forestOk (m .components) (isLive t) 1 0 (t .levels)) (c .0) in
     record {
       rooted = d .0;
       forest = forest-valid (m .components) (isLive t) 1 0 (t .levels) (d .1);
@@ -151,9 +151,9 @@ module _ (m : Limits) (ls bs : List ℕ) (ll : length ls ≡ m .levels) (lb : le
   unfolding partsOk objectsOk
   parts-held [] lo h = absurd (let z : _≡_ {A = ℕ} 0 1 = cc in omega arith)
   parts-held (n ∷ vs) lo h =
-      let a = both _ (scan (m .components) (below n) 0 (lowest (m .components)) ls bs) h in
-      let d = both (leb n (m .objects) && allZero (drop n vs)) _ (a .0) in
-      let b = both (leb n (m .objects)) (allZero (drop n vs)) (d .0) in
+      let a = halves _ (scan (m .components) (below n) 0 (lowest (m .components)) ls bs) h in
+      let d = halves (leb n (m .objects) && allZero (drop n vs)) _ (a .0) in
+      let b = halves (leb n (m .objects)) (allZero (drop n vs)) (d .0) in
       (_, held-tree m ls bs n vs ll lb (omega arith) (leb-true _ _ (b .0)) (b .1) (not-first (eqb (getD ls 0 0) 0) refl (d .1)) (sound (m .components) (below n) ls 0 (lowest (m .components)) bs (length-lowest (m .components)) (a .1)))
     where
       not-first : (x : Bool) → eqb (getD ls 0 0) 0 ≡ x → not x ≡ true → getD ls 0 0 ≡ 0 → ⊥

@@ -29,37 +29,37 @@ push-requires : tie.Need-push-requires Inv-loop μ-loop Inv-loop2 μ-loop2
 push-requires c κs =
     let a = c .before .before .before .before .before .args in
     let l = c .before .before .loop in
-    omega (arith, build-count (a .input .now) (a .pre) (a .from) (a .n) (l .name) (omega arith) (omega arith) (l .i) (omega arith) (l .inv .1))
+    omega (arith, build-count componentLimit (a .input .now) (a .pre) (a .from) (a .n) (l .name) (omega arith) (omega arith) (l .i) (omega arith) (l .inv .1))
 
 loop-again : tie.Need-loop-again Inv-loop μ-loop Inv-loop2 μ-loop2
 loop-again c =
     let a = c .before .before .before .before .before .before .args in
     let l = c .before .before .before .loop in
-    (omega arith, c .push .ensures ∙ build-prefix (a .input .now) (a .pre) (a .from) (a .n) (l .name) (omega arith) (omega arith) (l .i) (omega arith) (l .inv .1))
+    (omega arith, c .push .ensures ∙ build-prefix componentLimit (a .input .now) (a .pre) (a .from) (a .n) (l .name) (omega arith) (omega arith) (l .i) (omega arith) (l .inv .1))
 
 loop2-holds : tie.Need-loop2-holds Inv-loop μ-loop Inv-loop2 μ-loop2
 loop2-holds c =
     let a = c .before .before .before .before .args in
     let l = c .before .loop in
-    (omega arith, build-half (a .input .now) (a .pre) (a .from) (a .n) (l .name) (omega arith) (omega arith) (l .i) (omega arith) (omega arith) (l .inv .1))
+    (omega arith, build-half componentLimit (a .input .now) (a .pre) (a .from) (a .n) (l .name) (omega arith) (omega arith) (l .i) (omega arith) (omega arith) (l .inv .1))
 
 push-requires-2 : tie.Need-push-requires-2 Inv-loop μ-loop Inv-loop2 μ-loop2
 push-requires-2 c κs =
     let a = c .before .before .before .before .before .before .before .before .before .before .args in
     let l = c .before .before .before .before .before .loop2 in
-    omega (arith, build-count (a .input .now) (a .pre) (a .from) (a .n) (l .name) (omega arith) (omega arith) (a .pre + l .j) (omega arith) (l .inv .1))
+    omega (arith, build-count componentLimit (a .input .now) (a .pre) (a .from) (a .n) (l .name) (omega arith) (omega arith) (a .pre + l .j) (omega arith) (l .inv .1))
 
 loop2-again : tie.Need-loop2-again Inv-loop μ-loop Inv-loop2 μ-loop2
 loop2-again c =
     let a = c .before .before .before .before .before .before .before .before .before .before .before .args in
     let l = c .before .before .before .before .before .before .loop2 in
-    (omega arith, c .push2 .ensures ∙ build-seg (a .input .now) (a .pre) (a .from) (a .n) (l .name) (omega arith) (omega arith) (l .j) (omega arith) (l .inv .1))
+    (omega arith, c .push2 .ensures ∙ build-seg componentLimit (a .input .now) (a .pre) (a .from) (a .n) (l .name) (omega arith) (omega arith) (l .j) (omega arith) (l .inv .1))
 
 returns : tie.Need-returns Inv-loop μ-loop Inv-loop2 μ-loop2
 returns c =
     let a = c .before .before .before .before .before .before .args in
     let l = c .before .loop2 in
-    build-done (a .input .now) (a .pre) (a .from) (a .n) (l .name) (omega arith) (omega arith) (l .j) (omega arith) (l .inv .1)
+    build-done componentLimit (a .input .now) (a .pre) (a .from) (a .n) (l .name) (omega arith) (omega arith) (l .j) (omega arith) (l .inv .1)
 
 pub build-spec : {M : Type 1} → statement M
 build-spec =

@@ -1,3 +1,4 @@
+-- The first character is a lead, and the others are name characters.
 use borrow.Author.Tests.{eq-eqb, ne-eqb}
 use Rattle.name_object.specs.Inside.{segChar}
 use borrow.Author.Needs.{needs}

@@ -1,23 +1,13 @@
-use mathlib.Core.Path.{_∙_}
-use Prim.Native.Nat.{_+_}
-use Rattle.name_object.proofs.Answers.{multi-end, multi-read}
+-- The count byte is there, or the part ends before it.
+use Rattle.name_object.proofs.Answers.{counted-end, counted-read}
 use borrow.Author.Needs.{needs}
 use native.Mathlib.Omega.{arith}
 use Rattle.name_object.proofs.multi_name_path.Statement.{statement}
 use Rattle.name_object.proofs.multi_name_path.Tie as tie
 
-returns : tie.Need-returns
-returns c = multi-end _ _ (omega arith)
-
-cast-name-segs : tie.Need-cast-name-segs
-cast-name-segs c = omega (arith, c .shared-slice-known2 .given (c .before .before .before .args .at + 1))
-
-name-segs-requires : tie.Need-name-segs-requires
-name-segs-requires c κs = omega (arith, c .shared-slice-known2 .given (c .before .before .before .args .at + 1))
-
-returns-2 : tie.Need-returns-2
-returns-2 c = c .name-segs .ensures ∙ multi-read _ _ (omega arith)
+cast-t9 : tie.Need-cast-t9
+cast-t9 c = omega (arith, c .shared-slice-known .given (c .before .before .args .at))
 
 pub multi-name-path-spec : {M : Type 1} → statement M
 multi-name-path-spec =
-    tie.close (tie.spec (λ c. search needs) returns (λ c. search needs) (λ c. search needs) cast-name-segs name-segs-requires returns-2)
+    tie.close (tie.spec (λ c. counted-end _ _ (omega arith)) (λ c. search needs) (λ c. search needs) cast-t9 (λ c. counted-read _ _ (omega arith)))

@@ -6,23 +6,13 @@ use native.Mathlib.Omega.{arith}
 use Rattle.name_object.proofs.name_path.Statement.{statement}
 use Rattle.name_object.proofs.name_path.Tie as tie
 
-returns : tie.Need-returns
-returns c = path-end _ _ (omega arith)
-
-returns-2 : tie.Need-returns-2
-returns-2 c = c .null-name .ensures ∙ path-null _ _ (omega arith) (omega arith)
-
-returns-3 : tie.Need-returns-3
-returns-3 c = c .dual-name-path .ensures ∙ path-dual _ _ (omega arith) (omega arith)
-
 returns-4 : tie.Need-returns-4
 returns-4 c = c .multi-name-path .ensures ∙ path-multi _ _ (omega arith) (omega arith)
 
 returns-5 : tie.Need-returns-5
-returns-5 c =
-    c .name-segs .ensures ∙ path-one _ _ (omega arith) (λ e. omega arith) (λ e. omega arith) (λ e. omega arith)
+returns-5 c = path-one _ _ (omega arith) (λ e. omega arith) (λ e. omega arith) (λ e. omega arith)
 
 pub name-path-spec : {M : Type 1} → statement M
 name-path-spec =
-    tie.close (tie.spec returns (λ c. search needs) (λ c κs. search needs) (λ c κs. search needs) (λ c κs. search needs) (λ c κs. search needs) returns-2
-    returns-3 returns-4 returns-5)
+    tie.close (tie.spec (λ c. path-end _ _ (omega arith)) (λ c. search needs) (λ c. search needs) (λ c. search needs) (λ c. search needs) (λ c κs. search needs)
+    (λ c. path-null _ _ (omega arith) (omega arith)) (λ c. path-dual _ _ (omega arith) (omega arith)) returns-4 returns-5)

@@ -1,3 +1,4 @@
+-- A refusal stands beside the empty path.
 use Rattle.pkg_length.specs.Refusal.{refused}
 use borrow.Author.Needs.{needs}
 use Rattle.name_object.proofs.refuse.Statement.{statement}

@@ -1,10 +1,11 @@
 -- The text is written only where its length fits.
-use mathlib.Core.Path.{_≡_, refl, sym, _∙_, ap}
+use mathlib.Core.Path.{refl, sym, _∙_, ap}
 use Prim.Native.Nat.{ℕ, _≤_}
 use lib.ListN.{length}
 use Rattle.pkg_length.specs.Refusal.{gives}
 use Rattle.name_object.specs.Component.{componentLimit}
 use Rattle.name_object.specs.Memory.{pathOf}
+use Rattle.name_object.proofs.Paths.{path-fine}
 use Rattle.path.specs.Text.{textOf, textWithin}
 use Rattle.path.proofs.Basics.{path-bad}
 use Rattle.path.proofs.Writings.{same-wrote, wrote-as, text-fits, text-over, written-long}
@@ -14,14 +15,11 @@ use Rattle.path.proofs.as_string.Statement.{statement}
 use Rattle.path.proofs.as_string.Tie as tie
 
 text-length-requires : tie.Need-text-length-requires
-text-length-requires c κs =
-    let len : length (c .before .before .before .before .before .before .before .args .t1 .bytes) ≡ 128 = search needs in
-    (len, sym (c .before .before .before .holds-path .ensures) ∙ c .before .before .if1 .taken)
+text-length-requires c κs = path-fine componentLimit (c .before .before .before .before .before .before .before .args .t1) (sym (c .before .before .before .holds-path .ensures) ∙ c .before .before .if1 .taken) .1
 
 write-text-requires : tie.Need-write-text-requires
 write-text-requires c κs =
-    let len : length (c .before .before .before .before .before .before .before .before .before .before .before .before .args .t1 .bytes) ≡ 128 = search needs in
-    (len, sym (c .before .before .before .before .before .before .before .before .holds-path .ensures) ∙ c .before .before .before .before .before .before .before .if1 .taken, omega (arith, c .before .before .before .before .text-length .ensures))
+    (path-fine componentLimit (c .before .before .before .before .before .before .before .before .before .before .before .before .args .t1) (sym (c .before .before .before .before .before .before .before .before .holds-path .ensures) ∙ c .before .before .before .before .before .before .before .if1 .taken) .1, omega (arith, c .before .before .before .before .text-length .ensures))
 
 same-length : tie.Need-same-length
 same-length c =

@@ -1,7 +1,7 @@
 -- Four bytes that pass the test of a segment are pushed on the empty path.
 use mathlib.Core.Path.{refl, sym, _∙_}
 use lib.ListN.{getD}
-use Rattle.name_object.specs.Component.{seg}
+use Rattle.name_object.specs.Component.{seg, componentLimit}
 use Rattle.path.proofs.Basics.{answers-as, same-told}
 use Rattle.path.proofs.Flags.{push-first, count-none, seg-good, seg-bad}
 use borrow.Author.Needs.{needs}
@@ -10,17 +10,17 @@ use Rattle.path.proofs.from_name_seg.Statement.{statement}
 use Rattle.path.proofs.from_name_seg.Tie as tie
 
 push-requires : tie.Need-push-requires
-push-requires c κs = omega (arith, count-none (c .empty .result) (c .empty .ensures))
+push-requires c κs = omega (arith, count-none componentLimit (c .empty .result) (c .empty .ensures))
 
 returns : tie.Need-returns
 returns c =
     let bs = c .before .before .before .before .before .args .seg .0 in
-    answers-as (seg-good bs (sym (c .before .before .before .is-segment .ensures) ∙ c .before .before .if1 .taken))
-    (same-told (push-first _ (c .before .empty .result) (seg (getD bs 0 0) (getD bs 1 0) (getD bs 2 0) (getD bs 3 0)) _ _ _ _ refl (c .push .ensures) (c .before .empty .ensures)) refl)
+    answers-as componentLimit (seg-good bs (sym (c .before .before .before .is-segment .ensures) ∙ c .before .before .if1 .taken))
+    (same-told (push-first componentLimit _ (c .before .empty .result) (seg (getD bs 0 0) (getD bs 1 0) (getD bs 2 0) (getD bs 3 0)) _ _ _ _ (omega arith) refl (c .push .ensures) (c .before .empty .ensures)) refl)
 
 returns-2 : tie.Need-returns-2
 returns-2 c =
-    answers-as (seg-bad (c .before .before .before .before .args .seg .0) (sym (c .before .before .is-segment .ensures) ∙ c .before .if1 .left)) (c .refuse .ensures)
+    answers-as componentLimit (seg-bad (c .before .before .before .before .args .seg .0) (sym (c .before .before .is-segment .ensures) ∙ c .before .if1 .left)) (c .refuse .ensures)
 
 pub from-name-seg-spec : {M : Type 1} → statement M
 from-name-seg-spec =

@@ -9,23 +9,14 @@ use native.Mathlib.Omega.{arith}
 use Rattle.pkg_length.proofs.raw_pkg_length.Statement.{statement}
 use Rattle.pkg_length.proofs.raw_pkg_length.Tie as tie
 
-returns : tie.Need-returns
-returns c = raw-over _ (omega arith)
-
 returns-2 : tie.Need-returns-2
 returns-2 c = spelt-empty _ (omega arith) ∙ raw-spelt _ (omega arith)
-
-cast-lead-byte : tie.Need-cast-lead-byte
-cast-lead-byte c = omega (arith, c .shared-slice-known2 .given 0)
 
 returns-3 : tie.Need-returns-3
 returns-3 c = spelt-plain _ (omega arith) (omega arith) ∙ raw-spelt _ (omega arith)
 
 returns-4 : tie.Need-returns-4
 returns-4 c = spelt-short _ (omega arith) (λ e. omega arith) (omega arith) ∙ raw-spelt _ (omega arith)
-
-little-endian-requires : tie.Need-little-endian-requires
-little-endian-requires c κs = omega (arith, c .before .before .shared-slice-known2 .given 0)
 
 mul-t12 : tie.Need-mul-t12
 mul-t12 c =
@@ -45,5 +36,5 @@ returns-5 c =
 
 pub raw-pkg-length-spec : {M : Type 1} → statement M
 raw-pkg-length-spec =
-    tie.close (tie.spec returns returns-2 (λ c. search needs) cast-lead-byte returns-3 (λ c. search needs) returns-4 little-endian-requires mul-t12 add-t16
-    (λ c. search needs) returns-5)
+    tie.close (tie.spec (λ c. raw-over _ (omega arith)) returns-2 (λ c. search needs) (λ c. omega (arith, c .shared-slice-known2 .given 0)) returns-3
+    (λ c. search needs) returns-4 (λ c κs. omega (arith, c .before .before .shared-slice-known2 .given 0)) mul-t12 add-t16 (λ c. search needs) returns-5)

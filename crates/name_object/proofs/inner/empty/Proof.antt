@@ -1,3 +1,4 @@
+-- The zeros that every path begins as.
 use Rattle.name_object.specs.Component.{spell}
 use mathlib.Core.Path.{refl}
 use Rattle.name_object.specs.Memory.{nameOf, zeros}

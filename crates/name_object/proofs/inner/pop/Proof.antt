@@ -1,3 +1,4 @@
+-- The four stores, as the definition has them.
 use mathlib.Core.Path.{refl}
 use Rattle.name_object.specs.Memory.{popped, put4}
 use borrow.Author.Needs.{needs}

@@ -16,23 +16,23 @@ returns : tie.Need-returns
 returns c =
     let name = pathOf (nameIn (c .before .before .before .before .before .args .count) (c .before .before .before .before .before .args .path .now)) in
     let scope = pathOf (nameIn (c .before .before .before .before .before .args .below) (c .before .before .before .before .before .args .scope .now)) in
-    answers-as (res-alone componentLimit name scope (sym (c .before .before .before .before .is-rooted .ensures) ∙ c .before .before .before .if1 .taken) (sym (c .before .before .is-rooted2 .ensures) ∙ c .before .if2 .taken)) (c .normal .ensures)
+    answers-as componentLimit (res-alone componentLimit name scope (sym (c .before .before .before .before .is-rooted .ensures) ∙ c .before .before .before .if1 .taken) (sym (c .before .before .is-rooted2 .ensures) ∙ c .before .if2 .taken)) (c .normal .ensures)
 
 joined-requires : tie.Need-joined-requires
 joined-requires c κs =
-    record { size = c .before .before .before .before .pre .0 .0; ok = c .before .before .before .before .pre .0 .1; below = c .before .before .before .before .pre .1; good = c .before .before .before .before .pre .2; relative = sym (c .before .is-rooted2 .ensures) ∙ c .if2 .left }
+    (c .before .before .before .before .pre .0, c .before .before .before .before .pre .1, sym (c .before .is-rooted2 .ensures) ∙ c .if2 .left)
 
 returns-2 : tie.Need-returns-2
 returns-2 c =
     let name = pathOf (nameIn (c .before .before .before .before .before .args .count) (c .before .before .before .before .before .args .path .now)) in
     let scope = pathOf (nameIn (c .before .before .before .before .before .args .below) (c .before .before .before .before .before .args .scope .now)) in
-    answers-as (res-joined componentLimit name scope (sym (c .before .before .before .before .is-rooted .ensures) ∙ c .before .before .before .if1 .taken) (sym (c .before .before .is-rooted2 .ensures) ∙ c .before .if2 .left)) (c .joined .ensures)
+    answers-as componentLimit (res-joined componentLimit name scope (sym (c .before .before .before .before .is-rooted .ensures) ∙ c .before .before .before .if1 .taken) (sym (c .before .before .is-rooted2 .ensures) ∙ c .before .if2 .left)) (c .joined .ensures)
 
 returns-3 : tie.Need-returns-3
 returns-3 c =
     let name = pathOf (nameIn (c .before .before .before .args .count) (c .before .before .before .args .path .now)) in
     let scope = pathOf (nameIn (c .before .before .before .args .below) (c .before .before .before .args .scope .now)) in
-    answers-as (res-relative componentLimit name scope (sym (c .before .before .is-rooted .ensures) ∙ c .before .if1 .left)) (c .refuse .ensures)
+    answers-as componentLimit (res-relative componentLimit name scope (sym (c .before .before .is-rooted .ensures) ∙ c .before .if1 .left)) (c .refuse .ensures)
 
 pub resolved-spec : {M : Type 1} → statement M
 resolved-spec =

@@ -1,6 +1,7 @@
 -- A law for each way that a step goes.
 use mathlib.Core.Path.{refl, sym, _∙_, ap}
 use Rattle.pkg_length.specs.Refusal.{gives}
+use Rattle.name_object.specs.Component.{componentLimit}
 use Rattle.path.specs.Normal.{step}
 use Rattle.path.specs.declared.climb.Climb.{Climb}
 use Rattle.path.proofs.Climbs.{is-up, not-up, climb-push, climb-pop, climb-stop, climbed-as}
@@ -23,8 +24,8 @@ returns c =
     record {
       low = omega arith;
       is = λ done x s f e.
-          climbed-as (Climb.High (a .high - 1)) (c .put .ensures) (ap (step (gives done)) (is-up x (a .a) (a .b) (a .c) (a .d) _ e f (c .before .before .before .before .before .if1 .taken)))
-          (climb-pop (a .out .now) (a .high) done s (sym (c .before .before .before .has-segment .ensures .is done s) ∙ c .before .before .if2 .taken));
+          climbed-as componentLimit (Climb.High (a .high - 1)) (c .put .ensures) (ap (step (gives done)) (is-up x (a .a) (a .b) (a .c) (a .d) _ e f (c .before .before .before .before .before .if1 .taken)))
+          (climb-pop componentLimit (a .out .now) (a .high) done s (sym (c .before .before .before .has-segment .ensures .is done s) ∙ c .before .before .if2 .taken));
     }
 
 returns-2 : tie.Need-returns-2
@@ -34,7 +35,7 @@ returns-2 c =
       low = tt;
       is = λ done x s f e.
           ap (step (gives done)) (is-up x (a .a) (a .b) (a .c) (a .d) _ e f (c .before .before .before .if1 .taken))
-          ∙ climb-stop (a .out .now) (a .high) done s (sym (c .before .has-segment .ensures .is done s) ∙ c .if2 .left);
+          ∙ climb-stop componentLimit (a .out .now) (a .high) done s (sym (c .before .has-segment .ensures .is done s) ∙ c .if2 .left);
     }
 
 returns-3 : tie.Need-returns-3
@@ -43,8 +44,8 @@ returns-3 c =
     record {
       low = omega arith;
       is = λ done x s f e.
-          climbed-as (Climb.High (a .high + 1)) (c .put2 .ensures) refl
-          (climb-push (a .out .now) (a .high) done s x (a .a) (a .b) (a .c) (a .d) f e (not-up x (a .a) (a .b) (a .c) (a .d) e (c .before .before .if1 .left)));
+          climbed-as componentLimit (Climb.High (a .high + 1)) (c .put2 .ensures) refl
+          (climb-push componentLimit (a .out .now) (a .high) done s x (a .a) (a .b) (a .c) (a .d) f e (not-up x (a .a) (a .b) (a .c) (a .d) e (c .before .before .if1 .left)));
     }
 
 pub step-spec : {M : Type 1} → statement M

@@ -5,10 +5,10 @@ use mathlib.Core.List.{List}
 use Prim.Native.Nat.{_+_, _-_, _≤_, _<_}
 use lib.ListN.{length, getD}
 use Rattle.name_object.specs.Component.{Component, up, fine, componentLimit}
-use Rattle.name_object.specs.Memory.{pathOk, pathOf}
-use Rattle.path.specs.Inside.{nameIn, fresh, Shows}
+use Rattle.name_object.specs.Memory.{pathOf}
+use Rattle.path.specs.Inside.{nameIn, Known, fresh, Shows}
 use Rattle.path.proofs.Climbs.{Along, along-none, along-fine, along-next, along-stop, along-all, stepped-as}
-use Rattle.path.proofs.Walks.{path-byte, length-path}
+use Rattle.path.proofs.Walks.{byte-at, length-path}
 use borrow.Author.Needs.{needs}
 use native.Mathlib.Omega.{arith}
 use Rattle.path.proofs.climb.walk.Statement.{statement}
@@ -17,15 +17,15 @@ use Rattle.path.proofs.climb.walk.Tie as tie
 abbrev Inv-loop : tie.InvT-loop
 Inv-loop out₀ start path count high₀ i₀ out high i =
     (i ≤ count) × (high ≤ start + i)
-    × ((done : List Component) → Shows out₀ start done → length path ≡ 128 → pathOk componentLimit (nameIn count path) ≡ true → fine (fresh done) (pathOf (nameIn count path)) ≡ true →
-    Along out high done (pathOf (nameIn count path)) i)
+    × ((done : List Component) → Shows componentLimit out₀ start done → Known componentLimit (nameIn count path) → fine (fresh done) (pathOf (nameIn count path)) ≡ true →
+    Along componentLimit out high done (pathOf (nameIn count path)) i)
 
 abbrev μ-loop : tie.MeasureT-loop
 μ-loop out₀ start path count high₀ i₀ out high i =
     count - i
 
 loop-holds : tie.Need-loop-holds Inv-loop μ-loop
-loop-holds c = (omega arith, omega arith, λ done s len p g. along-none _ _ done _ s g)
+loop-holds c = (omega arith, omega arith, λ done s k g. along-none _ _ _ done _ s g)
 
 loop-again : tie.Need-loop-again Inv-loop μ-loop
 loop-again c =
@@ -35,12 +35,12 @@ loop-again c =
     let t = stepped-as (c .before .n .given .1) (c .before .before .before .step .ensures) in (
       omega arith,
       omega (arith, t .low),
-      λ done s len p g.
-          let k : l .i < length (pathOf name) = omega (arith, length-path name) in
-          let w = l .inv .2 done s len p g in
-          along-next done (pathOf name) (l .i) k (l .out) (l .high) w (c .before .before .before .step .last .0) (c .before .n .given .0 .0)
-          (t .is (w .now) (getD (pathOf name) (l .i) up) (w .shows) (along-fine done (pathOf name) (l .i) k (l .out) (l .high) w)
-          (path-byte name (l .i) len p (omega arith))),
+      λ done s k g.
+          let h : l .i < length (pathOf name) = omega (arith, length-path name) in
+          let w = l .inv .2 done s k g in
+          along-next componentLimit done (pathOf name) (l .i) h (l .out) (l .high) w (c .before .before .before .step .last .0) (c .before .n .given .0 .0)
+          (t .is (w .now) (getD (pathOf name) (l .i) up) (w .shows) (along-fine componentLimit done (pathOf name) (l .i) h (l .out) (l .high) w)
+          (byte-at componentLimit name (l .i) k (omega arith))),
     )
 
 returns : tie.Need-returns Inv-loop μ-loop
@@ -51,12 +51,12 @@ returns c =
     let t = stepped-as (c .enum-told .given .1) (c .before .before .step .ensures) in
     record {
       low = tt;
-      is = λ done s len p g.
-          let k : l .i < length (pathOf name) = omega (arith, length-path name) in
-          let w = l .inv .2 done s len p g in
-          along-stop done (pathOf name) (l .i) k (l .out) (l .high) w
-          (t .is (w .now) (getD (pathOf name) (l .i) up) (w .shows) (along-fine done (pathOf name) (l .i) k (l .out) (l .high) w)
-          (path-byte name (l .i) len p (omega arith)));
+      is = λ done s k g.
+          let h : l .i < length (pathOf name) = omega (arith, length-path name) in
+          let w = l .inv .2 done s k g in
+          along-stop componentLimit done (pathOf name) (l .i) h (l .out) (l .high) w
+          (t .is (w .now) (getD (pathOf name) (l .i) up) (w .shows) (along-fine componentLimit done (pathOf name) (l .i) h (l .out) (l .high) w)
+          (byte-at componentLimit name (l .i) k (omega arith)));
     }
 
 returns-2 : tie.Need-returns-2 Inv-loop μ-loop
@@ -66,7 +66,7 @@ returns-2 c =
     let name = nameIn (a .count) (a .path .now) in
     record {
       low = omega arith;
-      is = λ done s len p g. along-all (l .out) (l .high) done (pathOf name) (l .i) (omega (arith, length-path name)) (l .inv .2 done s len p g);
+      is = λ done s k g. along-all componentLimit (l .out) (l .high) done (pathOf name) (l .i) (omega (arith, length-path name)) (l .inv .2 done s k g);
     }
 
 pub walk-spec : {M : Type 1} → statement M

@@ -1,4 +1,4 @@
--- Up to 32 components memory shows them all.
+-- Up to the limit memory shows all components.
 use mathlib.Core.Path.{refl, sym, _∙_}
 use Rattle.name_object.specs.Component.{componentLimit}
 use Rattle.name_object.specs.Memory.{nameOf}
@@ -13,13 +13,13 @@ use Rattle.path.proofs.memory.finish.Tie as tie
 
 returns : tie.Need-returns
 returns c =
-    λ cs m n. answers-as (sym (limited-over componentLimit cs (omega arith))) (c .refuse .ensures)
+    λ cs m n. answers-as componentLimit (sym (limited-over componentLimit cs (omega arith))) (c .refuse .ensures)
 
 returns-2 : tie.Need-returns-2
 unfolding nameOf
 returns-2 c =
     λ cs m n.
-    answers-as (sym (limited-in componentLimit cs (omega arith)))
+    answers-as componentLimit (sym (limited-in componentLimit cs (omega arith)))
     (same-told (same-name n (m ∙ shown-fits componentLimit cs (omega arith))) refl)
 
 pub finish-spec : {M : Type 1} → statement M

@@ -13,12 +13,12 @@ use Rattle.path.proofs.text.read_parts.Statement.{statement}
 use Rattle.path.proofs.text.read_parts.Tie as tie
 
 abbrev Inv-loop : tie.InvT-loop
-Inv-loop out₀ text from have s₀ i₀ out s i =
+Inv-loop out₀ text from s₀ i₀ out s i =
     (from ≤ i) × (i ≤ length text) × (s .count + s .chars ≤ i)
-    × ((done : List Component) → out₀ ≡ shown componentLimit done → have ≡ length done → OnWay out s i (drop i text) (after done (reading before from (drop from text))))
+    × ((done : List Component) → out₀ ≡ shown componentLimit done → from ≡ length done → OnWay componentLimit out s i (drop i text) (after done (reading before from (drop from text))))
 
 abbrev μ-loop : tie.MeasureT-loop
-μ-loop out₀ text from have s₀ i₀ out s i =
+μ-loop out₀ text from s₀ i₀ out s i =
     length text - i
 
 loop-holds : tie.Need-loop-holds Inv-loop μ-loop
@@ -34,8 +34,8 @@ loop-again c =
       omega (arith, t .low),
       λ done e h.
           let w = after done (reading before (a .from) (drop (a .from) (a .text .now))) in
-          way-on (c .before .before .before .read-byte .last .0) (c .before .t .given .0 .0) (l .i) (a .text .now) w
-          (t .is (l .i) (drop (suc (l .i)) (a .text .now)) w (way-next (l .out) (l .s) (l .i) (a .text .now) w (omega arith) (l .inv .3 done e h))),
+          way-on componentLimit (c .before .before .before .read-byte .last .0) (c .before .t .given .0 .0) (l .i) (a .text .now) w
+          (t .is (l .i) (drop (suc (l .i)) (a .text .now)) w (way-next componentLimit (l .out) (l .s) (l .i) (a .text .now) w (omega arith) (l .inv .3 done e h))),
     )
 
 returns : tie.Need-returns Inv-loop μ-loop
@@ -45,19 +45,19 @@ returns c =
     let t = turns-as (c .before .enum-told .given .1) (c .before .before .before .read-byte .ensures) in
     λ done e h.
     let w = after done (reading before (a .from) (drop (a .from) (a .text .now))) in
-    t .is (l .i) (drop (suc (l .i)) (a .text .now)) w (way-next (l .out) (l .s) (l .i) (a .text .now) w (omega arith) (l .inv .3 done e h))
+    t .is (l .i) (drop (suc (l .i)) (a .text .now)) w (way-next componentLimit (l .out) (l .s) (l .i) (a .text .now) w (omega arith) (l .inv .3 done e h))
 
 returns-2 : tie.Need-returns-2 Inv-loop μ-loop
 returns-2 c =
     let a = c .before .before .before .before .before .args in
     let l = c .before .before .before .loop in
-    λ done e h. end-before (l .out) (l .s) (l .i) (a .text .now) _ (l .inv .3 done e h) (omega arith) (c .if1 .taken)
+    λ done e h. end-before componentLimit (l .out) (l .s) (l .i) (a .text .now) _ (omega arith) (l .inv .3 done e h) (c .if1 .taken)
 
 returns-3 : tie.Need-returns-3 Inv-loop μ-loop
 returns-3 c =
     let a = c .before .before .before .before .before .before .args in
     let l = c .before .before .before .before .loop in
-    λ done e h. end-inside (l .out) (l .s) (l .i) (a .text .now) _ (l .inv .3 done e h) (omega arith) (c .before .if1 .left)
+    λ done e h. end-inside componentLimit (l .out) (l .s) (l .i) (a .text .now) _ (omega arith) (l .inv .3 done e h) (c .before .if1 .left)
 
 pub read-parts-spec : {M : Type 1} → statement M
 read-parts-spec =

@@ -6,7 +6,6 @@ use lib.ListN.{length, getD, drop}
 use lib.Seq.{length-sets}
 use Rattle.name_object.specs.Component.{componentLimit}
 use Rattle.name_object.specs.Memory.{pathOf}
-use Rattle.name_object.proofs.Paths.{path-fine}
 use Rattle.path.specs.Text.{textOf}
 use Rattle.path.specs.Inside.{nameIn, piece}
 use Rattle.path.proofs.Writings.{Written, written-none, written-turn, written-room, written-all, text-end, text-next, length-next, piece-length}
@@ -26,14 +25,13 @@ abbrev μ-loop : tie.MeasureT-loop
 
 loop-holds : tie.Need-loop-holds Inv-loop μ-loop
 loop-holds c =
-    let name = nameIn (c .before .args .count) (c .before .args .bytes .now) in
-    (omega arith, path-fine componentLimit name (c .before .pre .1) .1, refl, c .before .pre .2, written-none _ _)
+    (omega arith, c .before .pre .0, refl, c .before .pre .1, written-none _ _)
 
 write-piece-requires : tie.Need-write-piece-requires Inv-loop μ-loop
 write-piece-requires c κs =
     let name = nameIn (c .before .before .before .before .before .before .before .before .args .count) (c .before .before .before .before .before .before .before .before .args .bytes .now) in
     let l = c .before .before .before .before .before .before .loop in
-    omega (arith, length-next name (l .i) (c .before .before .before .before .before .before .before .before .pre .0) (c .before .before .before .before .before .before .before .before .pre .1) (omega arith), written-room (l .out) (c .before .before .before .before .before .before .before .before .args .out .now) (l .at) _ _ (l .inv .4))
+    omega (arith, length-next name (l .i) (omega arith), written-room (l .out) (c .before .before .before .before .before .before .before .before .args .out .now) (l .at) _ _ (l .inv .4))
 
 loop-again : tie.Need-loop-again Inv-loop μ-loop
 loop-again c =
@@ -48,7 +46,7 @@ loop-again c =
       l .inv .3,
       written-turn (l .out) (c .before .before .write-piece .last .0) (c .before .before .before .before .before .before .before .before .before .before .before .args .out .now) (l .at) (c .before .before .write-piece .result) u _ _ _ _
           (l .inv .2) (l .inv .3) (piece-length m (getD b (4 * l .i) 0) (getD b (4 * l .i + 1) 0) (getD b (4 * l .i + 2) 0) (getD b (4 * l .i + 3) 0))
-          (text-next name (l .i) (c .before .before .before .before .before .before .before .before .before .before .before .pre .0) (c .before .before .before .before .before .before .before .before .before .before .before .pre .1) (omega arith)) (c .before .before .write-piece .ensures .0) (c .before .before .write-piece .ensures .1) (l .inv .4),
+          (text-next name (l .i) (omega arith)) (c .before .before .write-piece .ensures .0) (c .before .before .write-piece .ensures .1) (l .inv .4),
     )
 
 same-length : tie.Need-same-length Inv-loop μ-loop

@@ -4,7 +4,6 @@ use Prim.Native.Nat.{_-_, _≤_}
 use lib.ListN.{drop}
 use Rattle.name_object.specs.Component.{componentLimit}
 use Rattle.name_object.specs.Memory.{pathOf}
-use Rattle.name_object.proofs.Paths.{path-fine}
 use Rattle.path.specs.Normal.{isNormal}
 use Rattle.path.specs.Inside.{nameIn}
 use Rattle.path.proofs.Walks.{length-path}
@@ -23,18 +22,17 @@ abbrev μ-loop : tie.MeasureT-loop
     count - i
 
 loop-holds : tie.Need-loop-holds Inv-loop μ-loop
-loop-holds c =
-    (path-fine componentLimit (nameIn (c .args .count) (c .args .bytes .now)) (c .pre .1) .1, omega arith, refl)
+loop-holds c = (c .pre, omega arith, refl)
 
 returns : tie.Need-returns Inv-loop μ-loop
 returns c =
     let name = nameIn (c .before .before .before .before .args .count) (c .before .before .before .before .args .bytes .now) in
-    plain-stop name (c .before .before .before .loop .i) (c .before .before .before .before .pre .0) (c .before .before .before .before .pre .1) (omega arith) (c .if1 .taken) ∙ c .before .before .before .loop .inv .2
+    plain-stop name (c .before .before .before .loop .i) (omega arith) (c .if1 .taken) ∙ c .before .before .before .loop .inv .2
 
 loop-again : tie.Need-loop-again Inv-loop μ-loop
 loop-again c =
     let name = nameIn (c .before .before .before .before .args .count) (c .before .before .before .before .args .bytes .now) in
-    (omega arith, omega arith, plain-turn name (c .before .before .before .loop .i) (c .before .before .before .before .pre .0) (c .before .before .before .before .pre .1) (omega arith) (c .if1 .left) ∙ c .before .before .before .loop .inv .2)
+    (omega arith, omega arith, plain-turn name (c .before .before .before .loop .i) (omega arith) (c .if1 .left) ∙ c .before .before .before .loop .inv .2)
 
 returns-2 : tie.Need-returns-2 Inv-loop μ-loop
 returns-2 c =

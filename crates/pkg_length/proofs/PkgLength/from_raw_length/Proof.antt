@@ -1,3 +1,4 @@
+-- One test, as in the definition: the length is over what the stream has, or not.
 use borrow.Author.Needs.{needs}
 use borrow.Author.Tests.{le-leb, lt-leb}
 use Rattle.pkg_length.specs.Pkg.{fromRaw}

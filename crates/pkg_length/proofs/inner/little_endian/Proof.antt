@@ -1,12 +1,10 @@
+-- The value is what the bytes from k on spell; each byte before them is read in front, so that 256 times the value has room while fewer than 8 are read.
 use Prim.Native.Nat.{_+_, _-_}
 use borrow.Author.Needs.{needs}
 use native.Mathlib.Omega.{arith}
 use Rattle.pkg_length.proofs.Laws.{Spelt, spelt-none, spelt-turn, spelt-all, spelt-room}
 use Rattle.pkg_length.proofs.inner.little_endian.Statement.{statement}
 use Rattle.pkg_length.proofs.inner.little_endian.Tie as tie
-use Rattle.pkg_length.proofs.inner.little_endian.Reads as reads
-use Rattle.pkg_length.proofs.inner.little_endian.Lts as lts
-use Rattle.pkg_length.proofs.inner.wide.Reads as wide-reads
 
 abbrev Inv-loop : tie.InvT-loop
 Inv-loop input at n value₀ k₀ value k = Spelt input at n value k
