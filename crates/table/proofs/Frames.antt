@@ -14,7 +14,7 @@ use Rattle.table.specs.Limits.{Limits}
 use Rattle.table.specs.Tree.{Binding, Forest, none, level, Tree, Level, isLive, bound, levelCount}
 use Rattle.table.specs.Memory.{Edited}
 use Rattle.table.specs.Edits.{levelAt, Change, alter, scopeOf, lastOf, hasLevel, insertLevel, insertBinding, withChild, withBinding, without, withLevels, withObjects, nextHandle, handleIn, isBound, addLevel, removeLevel, lookUp, bind, addValue, addAlias, valueOf, setValue}
-use Rattle.table.proofs.Facts.{clash}
+use Rattle.table.proofs.Shape.{clash}
 use Rattle.table.proofs.Shape.{Valid}
 use Rattle.table.proofs.Whole.{Whole}
 use Rattle.table.proofs.Seek.{late}
