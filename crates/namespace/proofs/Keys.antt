@@ -32,7 +32,7 @@ use Rattle.namespace.specs.declared.inner.PathKeys.{PathKeys}
 use Rattle.table.proofs.Shape.{clash}
 use Rattle.table.proofs.Near.{length-keys}
 use Rattle.table.proofs.Objects.{means-formed, means-unformed}
-use Rattle.table.specs.Limits.{limits}
+use Rattle.table.specs.Limits.{Limits}
 use Rattle.table.specs.Memory.{wellFormed}
 
 key-getD : (cs : List Component) (i : ℕ) → getD (keys cs) i 0 ≡ key (getD cs i up)
@@ -100,17 +100,17 @@ module _ (limit : ℕ) (cs : List Component) (k : Kept limit cs) where
           rw (key-getD cs (suc i), s .is) (omega (arith, number-low (s .a) (s .b) (s .c) (s .d)))
       go (suc i) false e = rw (out (keys cs) (suc i) (omega (arith, length-keys cs, ltb-false (suc i) (length cs) e))) (omega arith)
 
-  pub kept-keyed : limit ≤ componentLimit → Keyed (keys cs)
-  kept-keyed h = record { short = omega (arith, length-keys cs, k .room); low = key-low }
+  pub kept-keyed : Keyed limit (keys cs)
+  kept-keyed = record { short = omega (arith, length-keys cs, k .room); low = key-low }
 
 -- memory that holds a settled path
-pub settled-kept : (name : AmlName) → Settled componentLimit name → Kept componentLimit (pathOf name)
-settled-kept name s =
-    let f = path-fine componentLimit name (s .path) in
+pub settled-kept : (limit : ℕ) (name : AmlName) → Settled limit name → Kept limit (pathOf name)
+settled-kept limit name s =
+    let f = path-fine limit name (s .path) in
     record { rooted = s .rooted; plain = s .plain; good = f .0; room = omega (arith, f .1, length-path name) }
 
-pub settled-count : (name : AmlName) → Settled componentLimit name → (0 < name .count) × (name .count ≤ componentLimit)
-settled-count name s = omega (arith, some-kept componentLimit (pathOf name) (settled-kept name s), length-path name, settled-kept name s .room)
+pub settled-count : (limit : ℕ) (name : AmlName) → Settled limit name → (0 < name .count) × (name .count ≤ limit)
+settled-count limit name s = omega (arith, some-kept limit (pathOf name) (settled-kept limit name s), length-path name, settled-kept limit name s .room)
 
 pub seg-number : (x : Component) (a b c d : ℕ) → SegAt x → spellOne x ≡ a ∷ b ∷ c ∷ d ∷ [] → key x ≡ number a b c d
 seg-number x a b c d s e =
@@ -127,7 +127,7 @@ module _ (name : AmlName) (hb : length (name .bytes) ≡ 128) (s : Settled compo
       → getD (keys (pathOf name)) i 0 ≡ number (getD (name .bytes) (4 * i) 0) (getD (name .bytes) (4 * i + 1) 0) (getD (name .bytes) (4 * i + 2) 0) (getD (name .bytes) (4 * i + 3) 0)
   key-bytes i z h =
       key-getD (pathOf name) i
-      ∙ seg-number (getD (pathOf name) i up) _ _ _ _ (seg-at componentLimit (pathOf name) (settled-kept name s) i z (omega (arith, length-path name))) (path-byte name i hb (s .path) h)
+      ∙ seg-number (getD (pathOf name) i up) _ _ _ _ (seg-at componentLimit (pathOf name) (settled-kept componentLimit name s) i z (omega (arith, length-path name))) (path-byte name i hb (s .path) h)
 
   pub keys-turn : (ks : List ℕ) (i x : ℕ) → 0 < i → i < name .count → i < length ks → take i ks ≡ take i (keys (pathOf name))
       → x ≡ number (getD (name .bytes) (4 * i) 0) (getD (name .bytes) (4 * i + 1) 0) (getD (name .bytes) (4 * i + 2) 0) (getD (name .bytes) (4 * i + 3) 0)
@@ -138,8 +138,8 @@ module _ (name : AmlName) (hb : length (name .bytes) ≡ 128) (s : Settled compo
 
   pub keys-first : 0 ∷ [] ≡ take 1 (keys (pathOf name))
   keys-first =
-      sym (take-suc (keys (pathOf name)) 0 0 (omega (arith, length-keys (pathOf name), some-kept componentLimit (pathOf name) (settled-kept name s)))
-      ∙ ap (λ (y : ℕ). y ∷ []) (key-first componentLimit (pathOf name) (settled-kept name s)))
+      sym (take-suc (keys (pathOf name)) 0 0 (omega (arith, length-keys (pathOf name), some-kept componentLimit (pathOf name) (settled-kept componentLimit name s)))
+      ∙ ap (λ (y : ℕ). y ∷ []) (key-first componentLimit (pathOf name) (settled-kept componentLimit name s)))
 
   pub keys-whole : (ks : List ℕ) (i : ℕ) → i ≡ name .count → take i ks ≡ take i (keys (pathOf name)) → take (name .count) ks ≡ keys (pathOf name)
   keys-whole ks i e h =
@@ -147,51 +147,51 @@ module _ (name : AmlName) (hb : length (name .bytes) ≡ 128) (s : Settled compo
 
 -- What a path argument comes to: an answer that is kept where it gives a path, as memory tells it.
 
-kept-settled : (cs : List Component) (name : AmlName) → Kept componentLimit cs → name ≡ nameOf componentLimit cs → Settled componentLimit name × (pathOf name ≡ cs)
-kept-settled cs name k e =
-    let f = fine-path componentLimit cs (k .good) (k .room) in
+kept-settled : (limit : ℕ) (cs : List Component) (name : AmlName) → Kept limit cs → name ≡ nameOf limit cs → Settled limit name × (pathOf name ≡ cs)
+kept-settled limit cs name k e =
+    let f = fine-path limit cs (k .good) (k .room) in
     let p : pathOf name ≡ cs = ap pathOf e ∙ f .1 in
-    (record { path = ap (pathOk componentLimit) e ∙ f .0; rooted = ap absolute p ∙ k .rooted; plain = ap isNormal p ∙ k .plain }, p)
+    (record { path = ap (pathOk limit) e ∙ f .0; rooted = ap absolute p ∙ k .rooted; plain = ap isNormal p ∙ k .plain }, p)
 
 abbrev pub Keeps : ℕ → Answer (List Component) → Type 0
 Keeps limit a = (ns : List Component) → a ≡ gives ns → Kept limit ns
 
-module _ (a : Answer (List Component)) (kept : Keeps componentLimit a) (found : PathAnswer) (h : pathTold found ≡ told componentLimit (alone a)) where
-  pub found-done : found .said ≡ PathSaid.Done → Settled componentLimit (found .name) × (a ≡ gives (pathOf (found .name)))
+module _ (limit : ℕ) (a : Answer (List Component)) (kept : Keeps limit a) (found : PathAnswer) (h : pathTold found ≡ told limit (alone a)) where
+  pub found-done : found .said ≡ PathSaid.Done → Settled limit (found .name) × (a ≡ gives (pathOf (found .name)))
   found-done d =
-      let x = said-done componentLimit a found h d in
-      let y = kept-settled (x .0) (found .name) (kept (x .0) (x .1)) (x .2) in
+      let x = said-done limit a found h d in
+      let y = kept-settled limit (x .0) (found .name) (kept (x .0) (x .1)) (x .2) in
       (y .0, x .1 ∙ ap (λ (l : List Component). gives l) (sym (y .1)))
 
   pub found-refused : (e : AmlError) → found .said ≡ PathSaid.Refused e → a ≡ refused e
-  found-refused e d = sym (said-refused componentLimit a found e h d)
+  found-refused e d = sym (said-refused limit a found e h d)
 
   -- and its keys, which are b
-  module _ (r : PathKeys) (k : KeysIn found r) (b : Answer (List ℕ)) (is : andThen a (λ ns. gives (keys ns)) ≡ b) where
+  module _ (r : PathKeys) (k : KeysIn limit found r) (b : Answer (List ℕ)) (is : andThen a (λ ns. gives (keys ns)) ≡ b) where
     pub keys-are : r .said ≡ PathSaid.Done → take (r .count) (r .keys) ≡ keys (pathOf (found .name))
     keys-are d = ap (λ (n : ℕ). take n (r .keys)) (k .count) ∙ k .keys (found-done (sym (k .said) ∙ d) .0)
 
-    pub path-keys : Keys componentLimit b r
+    pub path-keys : Keys limit b r
     path-keys =
         record {
           given = λ d.
               let x = found-done (sym (k .said) ∙ d) in
               record {
-                short = omega (arith, k .count, settled-count (found .name) (x .0));
+                short = omega (arith, k .count, settled-count limit (found .name) (x .0));
                 is = sym is ∙ ap (λ (y : Answer (List Component)). andThen y (λ ns. gives (keys ns))) (x .1) ∙ ap gives (sym (keys-are d));
-                keyed = subst Keyed (sym (keys-are d)) (kept-keyed componentLimit (pathOf (found .name)) (settled-kept (found .name) (x .0)) (omega arith));
+                keyed = subst (Keyed limit) (sym (keys-are d)) (kept-keyed limit (pathOf (found .name)) (settled-kept limit (found .name) (x .0)));
               };
           stopped = λ e d. sym is ∙ ap (λ (y : Answer (List Component)). andThen y (λ ns. gives (keys ns))) (found-refused e (sym (k .said) ∙ d));
         }
 
-    pub ready-keys : (ws : List ℕ) → wellFormed limits ws ≡ true → Ready limits ws b r
-    ready-keys ws ok = record { given = λ d. (ok, path-keys .given d); stopped = λ e d. rw (means-formed limits ws ok) (path-keys .stopped e d) }
+pub ready-keys : (m : Limits) (ws : List ℕ) (b : Answer (List ℕ)) (r : PathKeys) → wellFormed m ws ≡ true → Keys (m .components) b r → Ready m ws b r
+ready-keys m ws b r ok k = record { given = λ d. (ok, k .given d); stopped = λ e d. rw (means-formed m ws ok) (k .stopped e d) }
 
-pub ready-none : (ws : List ℕ) (b : Answer (List ℕ)) (r : PathKeys) → wellFormed limits ws ≡ false → r .said ≡ PathSaid.Refused AmlError.BadTable → Ready limits ws b r
-ready-none ws b r bad h =
+pub ready-none : (m : Limits) (ws : List ℕ) (b : Answer (List ℕ)) (r : PathKeys) → wellFormed m ws ≡ false → r .said ≡ PathSaid.Refused AmlError.BadTable → Ready m ws b r
+ready-none m ws b r bad h =
     record {
       given = λ d. absurd (let z : _≡_ {A = ℕ} 0 1 = cc in omega arith);
-      stopped = λ e d. rw (means-unformed limits ws bad) (let x : AmlError.BadTable ≡ e = cc in ap (λ (y : AmlError). refused {A = List ℕ} y) x);
+      stopped = λ e d. rw (means-unformed m ws bad) (let x : AmlError.BadTable ≡ e = cc in ap (λ (y : AmlError). refused {A = List ℕ} y) x);
     }
 
 -- a path argument, and one against a scope, without their keys

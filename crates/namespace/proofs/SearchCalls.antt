@@ -40,7 +40,7 @@ module _ (ws : List ℕ) (ok : wellFormed limits ws ≡ true) (scope : AmlName) 
   ns = pathOf scope
 
   room : length (pathOf scope) ≤ componentLimit
-  room = settled-kept scope s .room
+  room = settled-kept componentLimit scope s .room
 
   -- values
   abbrev near : Answer (Deep ℕ)

@@ -6,7 +6,7 @@ use Prim.Native.Nat.{ℕ, _≤_}
 use lib.ListN.{take}
 use Rattle.pkg_length.specs.Refusal.{Answer, gives, refused, andThen}
 use Rattle.pkg_length.specs.declared.AmlError.{AmlError}
-use Rattle.name_object.specs.Component.{Component, componentLimit}
+use Rattle.name_object.specs.Component.{Component}
 use Rattle.name_object.specs.Memory.{pathOk, pathOf}
 use Rattle.name_object.specs.declared.AmlName.{AmlName}
 use Rattle.path.specs.Normal.{absolute, isNormal, resolved, oneSegment}
@@ -30,16 +30,16 @@ pub record Bare (limit : ℕ) (name : AmlName) : Type 0 where
   pub alone : oneSegment (pathOf name) ≡ true
 
 -- the keys of what a path came to
-pub record KeysIn (found : PathAnswer) (r : PathKeys) : Type 0 where
+pub record KeysIn (limit : ℕ) (found : PathAnswer) (r : PathKeys) : Type 0 where
   pub said : r .said ≡ found .said
   pub count : r .count ≡ found .name .count
-  pub keys : Settled componentLimit (found .name) → take (found .name .count) (r .keys) ≡ keysOf (pathOf (found .name))
+  pub keys : Settled limit (found .name) → take (found .name .count) (r .keys) ≡ keysOf (pathOf (found .name))
 
 -- the keys that a path is to have are there
 pub record Given (limit : ℕ) (a : Answer (List ℕ)) (r : PathKeys) : Type 0 where
   pub short : r .count ≤ limit
   pub is : a ≡ gives (take (r .count) (r .keys))
-  pub keyed : Keyed (take (r .count) (r .keys))
+  pub keyed : Keyed limit (take (r .count) (r .keys))
 
 pub record Keys (limit : ℕ) (a : Answer (List ℕ)) (r : PathKeys) : Type 0 where
   pub given : r .said ≡ PathSaid.Done → Given limit a r

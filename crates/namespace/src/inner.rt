@@ -96,7 +96,7 @@ pub struct PathKeys {
 
 // The keys of what a path came to.
 fn keys_in(found: PathAnswer) -> PathKeys
-    ensures { λ r. ⌜ KeysIn found r ⌝ }
+    ensures { λ r. ⌜ KeysIn componentLimit found r ⌝ }
 {
     let name = found.name;
     let said = found.said;
@@ -163,7 +163,7 @@ pub fn type_number(typ: LevelType) -> u64
 
 // Adds a level of that type at the path.
 pub fn add_level(table: &mut [u64], path: &[u64], typ: u64) -> EditAnswer
-    requires { ⌜ (wellFormed limits (now table) ≡ true) × Keyed (now path) × (typ < 6) ⌝ }
+    requires { ⌜ (wellFormed limits (now table) ≡ true) × Keyed componentLimit (now path) × (typ < 6) ⌝ }
     ensures { λ r. ⌜ editLeft (now (table .exit)) r ≡ left limits (now (table .entry)) (done (addLevel limits (decode limits (now (table .entry))) (now (path .entry)) typ)) ⌝ }
 {
     let n = path.len();
@@ -188,7 +188,7 @@ pub fn add_level(table: &mut [u64], path: &[u64], typ: u64) -> EditAnswer
 
 // Removes the level at the path, with everything below it.
 pub fn remove_level(table: &mut [u64], path: &[u64]) -> EditAnswer
-    requires { ⌜ (wellFormed limits (now table) ≡ true) × Keyed (now path) ⌝ }
+    requires { ⌜ (wellFormed limits (now table) ≡ true) × Keyed componentLimit (now path) ⌝ }
     ensures { λ r. ⌜ editLeft (now (table .exit)) r ≡ left limits (now (table .entry)) (done (removeLevel (decode limits (now (table .entry))) (now (path .entry)))) ⌝ }
 {
     let n = path.len();
@@ -212,7 +212,7 @@ pub fn remove_level(table: &mut [u64], path: &[u64]) -> EditAnswer
 
 // Exact lookup.
 pub fn look_up(table: &[u64], path: &[u64]) -> HandleAnswer
-    requires { ⌜ (wellFormed limits (now table) ≡ true) × Keyed (now path) ⌝ }
+    requires { ⌜ (wellFormed limits (now table) ≡ true) × Keyed componentLimit (now path) ⌝ }
     ensures { λ r. ⌜ handleSaid r ≡ lookUp (decode limits (now (table .entry))) (now (path .entry)) ⌝ }
 {
     let found = table::inner::find_spot(table, path);
@@ -225,7 +225,7 @@ pub fn look_up(table: &[u64], path: &[u64]) -> HandleAnswer
 
 // Adds a value under a new handle, and binds the path's last segment to it.
 pub fn add_value(table: &mut [u64], path: &[u64], value: u64) -> HandleAnswer
-    requires { ⌜ (wellFormed limits (now table) ≡ true) × Keyed (now path) ⌝ }
+    requires { ⌜ (wellFormed limits (now table) ≡ true) × Keyed componentLimit (now path) ⌝ }
     ensures { λ r. ⌜ handleLeft (now (table .exit)) r ≡ left limits (now (table .entry)) (addValue limits (decode limits (now (table .entry))) (now (path .entry)) value) ⌝ }
 {
     let found = table::inner::find_spot(table, path);
@@ -250,7 +250,7 @@ pub fn add_value(table: &mut [u64], path: &[u64], value: u64) -> HandleAnswer
 
 // Binds the path's last segment to what the target's is bound to.
 pub fn add_alias(table: &mut [u64], path: &[u64], target: &[u64]) -> HandleAnswer
-    requires { ⌜ (wellFormed limits (now table) ≡ true) × Keyed (now path) × Keyed (now target) ⌝ }
+    requires { ⌜ (wellFormed limits (now table) ≡ true) × Keyed componentLimit (now path) × Keyed componentLimit (now target) ⌝ }
     ensures { λ r. ⌜ handleLeft (now (table .exit)) r ≡ left limits (now (table .entry)) (addAlias limits (decode limits (now (table .entry))) (now (path .entry)) (now (target .entry))) ⌝ }
 {
     let aim = look_up(table, target);

@@ -8,7 +8,6 @@ use Rattle.name_object.specs.Memory.{allZero}
 use Rattle.table.specs.Limits.{Limits}
 use Rattle.table.specs.Layout.{rankOf, typeOf, countOf, segOf, bindingOf}
 use Rattle.table.specs.Valid.{rising, levelOk}
-use Rattle.name_object.specs.Component.{componentLimit}
 use Rattle.table.specs.declared.inner.Sought.{Sought as Placed}
 use Rattle.table.specs.declared.inner.Run.{Run}
 use Rattle.table.specs.declared.inner.Slot.{Slot}
@@ -198,6 +197,6 @@ nearLevelIn s p (w ∷ ws) depth best =
 -- Paths.
 
 -- a path's keys, as the functions inside take them
-pub record Keyed (p : List ℕ) : Type 0 where
-  pub short : length p ≤ componentLimit
+pub record Keyed (limit : ℕ) (p : List ℕ) : Type 0 where
+  pub short : length p ≤ limit
   pub low : (i : ℕ) → getD p i 0 < 2 ^ 32

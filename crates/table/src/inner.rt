@@ -368,7 +368,7 @@ fn find_spot_in(levels: &[u64], bindings: &[u64], path: &[u64]) -> Spot
 }
 
 pub fn find_spot(table: &[u64], path: &[u64]) -> Spot
-    requires { ⌜ (wellFormed limits (now table) ≡ true) × Keyed (now path) ⌝ }
+    requires { ⌜ (wellFormed limits (now table) ≡ true) × Keyed componentLimit (now path) ⌝ }
     ensures { λ r. ⌜ r ≡ spotIn (take (limits .levels) (now (table .entry))) (take (limits .bindings) (drop (limits .levels) (now (table .entry)))) (now (path .entry)) ⌝ }
 {
     if path.len() <= 1 {

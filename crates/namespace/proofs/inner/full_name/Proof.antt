@@ -5,6 +5,7 @@ use Rattle.name_object.specs.Memory.{pathOf}
 use Rattle.path.proofs.Walks.{length-path}
 use Rattle.namespace.proofs.Keys.{settled-count}
 use Rattle.namespace.proofs.Bare.{cut-count, put-bare}
+use Rattle.name_object.specs.Component.{componentLimit}
 use borrow.Author.Needs.{needs}
 use native.Mathlib.Omega.{arith}
 use Rattle.namespace.proofs.inner.full_name.Statement.{statement}
@@ -17,7 +18,7 @@ push-requires : tie.Need-push-requires
 push-requires c κs =
     let c4 = c .before .before .before .before in
     let c5 = c4 .before in
-    let s = settled-count (c5 .args .scope) (c5 .pre .0) in
+    let s = settled-count componentLimit (c5 .args .scope) (c5 .pre .0) in
     omega (arith, cut-count (pathOf (c5 .args .scope)) (c5 .args .n) (c4 .within .result) (omega (arith, length-path (c5 .args .scope), c5 .pre .2)) (c4 .within .ensures), c5 .pre .3)
 
 returns : tie.Need-returns

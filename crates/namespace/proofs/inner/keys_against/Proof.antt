@@ -10,7 +10,7 @@ use Rattle.namespace.proofs.inner.keys_against.Tie as tie
 
 returns : tie.Need-returns
 returns c =
-    path-keys (resolved componentLimit (pathOf (c .before .before .args .path)) (pathOf (c .before .before .args .scope)))
+    path-keys componentLimit (resolved componentLimit (pathOf (c .before .before .args .path)) (pathOf (c .before .before .args .scope)))
     (against-keeps componentLimit (c .before .before .args .path) (c .before .before .args .scope) (c .before .before .pre .0) (c .before .before .pre .1)) (c .before .resolved .result) (c .before .resolved .ensures)
     (c .keys-in .result) (c .keys-in .ensures) _ refl
 

@@ -23,7 +23,7 @@ loop-holds : tie.Need-loop-holds Inv-loop μ-loop
 loop-holds c =
     let a = c .args in
     let len : length (a .t1 .bytes) ≡ 128 = search needs in
-    (omega arith, omega arith, refl, refl, λ s. (omega (arith, settled-count (a .t1) s), keys-first (a .t1) len s))
+    (omega arith, omega arith, refl, refl, λ s. (omega (arith, settled-count componentLimit (a .t1) s), keys-first (a .t1) len s))
 
 returns : tie.Need-returns Inv-loop μ-loop
 returns c = λ s.
@@ -52,7 +52,7 @@ returns-2 c = λ s.
     let l = c .before .loop in
     let a = c .before .before .args in
     let len : length (a .t1 .bytes) ≡ 128 = search needs in
-    keys-whole (a .t1) len s (l .keys) (l .i) (omega (arith, l .inv .4 s .0, settled-count (a .t1) s)) (l .inv .4 s .1)
+    keys-whole (a .t1) len s (l .keys) (l .i) (omega (arith, l .inv .4 s .0, settled-count componentLimit (a .t1) s)) (l .inv .4 s .1)
 
 pub keys-of-spec : {M : Type 1} → statement M
 keys-of-spec =

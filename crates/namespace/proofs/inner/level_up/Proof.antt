@@ -26,13 +26,13 @@ slice-aggregate-nearest-level c =
 
 array-share-prefix-keys : tie.Need-array-share-prefix-keys
 array-share-prefix-keys c =
-    let n = settled-count (c .before .before .before .before .args .scope) (c .before .before .before .before .pre .2) in
+    let n = settled-count componentLimit (c .before .before .before .before .args .scope) (c .before .before .before .before .pre .2) in
     let len : length (c .before .before .keys-of .result) ≡ 32 = search needs in
     omega arith
 
 slice-aggregate-nearest-level-2 : tie.Need-slice-aggregate-nearest-level-2
 slice-aggregate-nearest-level-2 c =
-    let n = settled-count (c .before .before .before .before .before .args .scope) (c .before .before .before .before .before .pre .2) in
+    let n = settled-count componentLimit (c .before .before .before .before .before .args .scope) (c .before .before .before .before .before .pre .2) in
     let len : length (c .before .before .before .keys-of .result) ≡ 32 = search needs in
     sym (length-take-le (c .before .before .before .before .before .args .scope .count) (c .before .before .before .keys-of .result) (omega arith))
 
@@ -70,7 +70,7 @@ sub-t16 c =
 
 add-t17 : tie.Need-add-t17
 add-t17 c =
-    let n = settled-count (c .before .before .before .before .before .before .before .before .args .scope) (c .before .before .before .before .before .before .before .before .pre .2) in omega arith
+    let n = settled-count componentLimit (c .before .before .before .before .before .before .before .before .args .scope) (c .before .before .before .before .before .before .before .before .pre .2) in omega arith
 
 returns-2 : tie.Need-returns-2
 returns-2 c =

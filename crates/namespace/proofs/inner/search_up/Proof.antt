@@ -32,13 +32,13 @@ part-nearest-value-end c =
 
 array-share-prefix-keys : tie.Need-array-share-prefix-keys
 array-share-prefix-keys c =
-    let n = settled-count (c .before .before .before .before .before .args .scope) (c .before .before .before .before .before .pre .2) in
+    let n = settled-count componentLimit (c .before .before .before .before .before .args .scope) (c .before .before .before .before .before .pre .2) in
     let len : length (c .before .before .before .keys-of .result) ≡ 32 = search needs in
     omega arith
 
 slice-aggregate-nearest-value-2 : tie.Need-slice-aggregate-nearest-value-2
 slice-aggregate-nearest-value-2 c =
-    let n = settled-count (c .before .before .before .before .before .before .args .scope) (c .before .before .before .before .before .before .pre .2) in
+    let n = settled-count componentLimit (c .before .before .before .before .before .before .args .scope) (c .before .before .before .before .before .before .pre .2) in
     let len : length (c .before .before .before .before .keys-of .result) ≡ 32 = search needs in
     sym (length-take-le (c .before .before .before .before .before .before .args .scope .count) (c .before .before .before .before .keys-of .result) (omega arith))
 
@@ -95,7 +95,7 @@ sub-t13 c =
 
 add-t23 : tie.Need-add-t23
 add-t23 c =
-    let n = settled-count (c .before .before .before .before .before .before .before .before .before .before .args .scope) (c .before .before .before .before .before .before .before .before .before .before .pre .2) in omega arith
+    let n = settled-count componentLimit (c .before .before .before .before .before .before .before .before .before .before .args .scope) (c .before .before .before .before .before .before .before .before .before .before .pre .2) in omega arith
 
 returns-2 : tie.Need-returns-2
 returns-2 c =

@@ -27,7 +27,7 @@ loop-holds c =
 
 pop-requires : tie.Need-pop-requires Inv-loop μ-loop
 pop-requires c κs =
-    let s = settled-count (c .before .before .before .args .name) (c .before .before .before .pre .0) in omega (arith, c .if1 .taken, c .before .before .loop .inv .1)
+    let s = settled-count componentLimit (c .before .before .before .args .name) (c .before .before .before .pre .0) in omega (arith, c .if1 .taken, c .before .before .loop .inv .1)
 
 loop-less : tie.Need-loop-less Inv-loop μ-loop
 loop-less c =
@@ -38,7 +38,7 @@ loop-again c =
     let l = c .before .before .before .loop in
     let cs = pathOf (c .before .before .before .before .args .name) in
     let n = count-popped (c .pop .result) (l .cut) (c .pop .ensures) in
-    let k = settled-kept (c .before .before .before .before .args .name) (c .before .before .before .before .pre .0) .room in (
+    let k = settled-kept componentLimit (c .before .before .before .before .args .name) (c .before .before .before .before .pre .0) .room in (
       omega (arith, c .before .if1 .taken),
       omega arith,
       c .pop .ensures ∙ cut-turn cs (l .cut .count) (l .cut) (omega (arith, c .before .if1 .taken)) (omega (arith, length-path (c .before .before .before .before .args .name), l .inv .1)) k (l .inv .2)
