@@ -7,9 +7,9 @@ use native.Mathlib.Omega.{arith}
 use lib.ListN.{length, take, drop, getD, set}
 use lib.Seq.{getD-take, getD-drop}
 use borrow.Author.Tests.{lt-leb, le-leb}
-use Rattle.pkg_length.proofs.Answers.{halves}
 use Rattle.pkg_length.specs.Refusal.{Answer, gives, refuses, refused, andThen}
 use Rattle.pkg_length.specs.declared.AmlError.{AmlError}
+use Rattle.name_object.proofs.Paths.{both}
 use Rattle.name_object.specs.Component.{Component, componentLimit}
 use Rattle.name_object.specs.Memory.{pathOk, pathOf, pathIn}
 use Rattle.name_object.specs.declared.AmlName.{AmlName}
@@ -168,8 +168,8 @@ module _ (m : Limits) (t : Tree) (cs ss ts : List Component) where
 pub three-paths : (path scope target : AmlName) → cond (pathOk componentLimit path) (cond (pathOk componentLimit scope) (pathOk componentLimit target) false) false ≡ true
     → (pathOk componentLimit path ≡ true) × (pathOk componentLimit scope ≡ true) × (pathOk componentLimit target ≡ true)
 three-paths path scope target h =
-    let a = halves (pathOk componentLimit path) _ h in
-    let b = halves (pathOk componentLimit scope) (pathOk componentLimit target) (a .1) in
+    let a = both (pathOk componentLimit path) _ h in
+    let b = both (pathOk componentLimit scope) (pathOk componentLimit target) (a .1) in
     (a .0, b .0, b .1)
 
 module _ (m : Limits) (ws : List ℕ) (path scope target : AmlName) where

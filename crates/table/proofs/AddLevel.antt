@@ -21,6 +21,7 @@ use Rattle.table.proofs.Focus.{Focus, focus}
 use Rattle.table.proofs.Insert.{PutIn, put-length, put-around, put-words, insert-bound, insert-put, insert-valid, Has, has}
 use Rattle.table.proofs.Held.{Split, split-last}
 use Rattle.table.proofs.Moves.{pos-flat}
+use Rattle.table.proofs.Facts.{one-less}
 
 apart : {T : Type 0} {j n : ℕ} {s : Sought} → s ≡ missing n → s ≡ here j → T
 apart a b = absurd (let z : _≡_ {A = ℕ} 0 1 = cc in omega arith)
@@ -155,12 +156,9 @@ module _ (m : Limits) (t : Tree) (w : Whole m t) (p : List ℕ) (h : 1 < length 
         → take j ls ++ push (pack (length p) typ 0 (lastOf p)) (drop j ls) ≡ pad (m .levels) (flat 1 (grown .levels))
     unfolding pad grown
     add-words ls e l =
-        ap (λ (x : List ℕ). take j x ++ push (pack (length p) typ 0 (lastOf p)) (drop j x)) (e ∙ ap (λ (n : ℕ). flat 1 (t .levels) ++ replicate n 0) (more (length (flat 1 (t .levels))) (m .levels) l))
+        ap (λ (x : List ℕ). take j x ++ push (pack (length p) typ 0 (lastOf p)) (drop j x)) (e ∙ ap (λ (n : ℕ). flat 1 (t .levels) ++ replicate n 0) (one-less (length (flat 1 (t .levels))) (m .levels) l))
         ∙ put-words (flat 1 (t .levels)) (flat 1 new) (pack (length p) typ 0 (lastOf p)) j (m .levels - suc (length (flat 1 (t .levels)))) (pos-flat (m .components) (isLive t) (t .levels) 1 0 (w .forest)) put
         ∙ ap (λ (n : ℕ). flat 1 new ++ replicate (m .levels - n) 0) (sym (put-length (flat 1 (t .levels)) (flat 1 new) (pack (length p) typ 0 (lastOf p)) j 0 put))
-      where
-        more : (n k : ℕ) → n < k → k - n ≡ suc (k - suc n)
-        more n k h = omega arith
 
     pub add-bound : bound (grown .levels) ≡ bound (t .levels)
     unfolding grown

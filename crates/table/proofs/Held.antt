@@ -3,7 +3,7 @@ use mathlib.Core.Path.{_≡_, refl, ap, ap₂, sym, _∙_}
 use mathlib.Core.Bool.{true}
 use mathlib.Core.List.{List, [], _∷_, _++_, map}
 use mathlib.Core.Logic.{⊎-elim}
-use Prim.Native.Nat.{ℕ, zero, suc, _+_, _-_, _<_, _≤_, _^_}
+use Prim.Native.Nat.{ℕ, suc, _+_, _-_, _<_, _≤_, _^_}
 use native.Mathlib.Omega.{arith}
 use native.Mathlib.Nat.{eq-or-lt-of-le}
 use lib.ListN.{length, take, drop, getD, replicate, List·getD-append, take-append-drop}
@@ -20,11 +20,7 @@ use Rattle.table.proofs.Memory.{levelPart, bindPart, objectPart, first-
 use Rattle.table.proofs.Objects.{whole, words}
 use Rattle.table.proofs.Seek.{seekF, seek-forest}
 use Rattle.table.proofs.Moves.{AllPos, pos-at, pos-flat, pos-bound}
-
-getD-zeros : (n i : ℕ) → getD {A = ℕ} (replicate n 0) i 0 ≡ 0
-getD-zeros zero i = refl
-getD-zeros (suc n) zero = refl
-getD-zeros (suc n) (suc i) = getD-zeros n i
+use Rattle.table.proofs.Facts.{getD-zeros}
 
 -- the last word says whether there is room
 module _ (n : ℕ) (xs : List ℕ) where

@@ -10,6 +10,7 @@ use lib.Seq.{take-at, drop-at, getD-drop, length-take-le, drop-drop}
 use borrow.Author.Tests.{eq-eqb, eqb-true}
 use Rattle.pkg_length.proofs.Answers.{halves}
 use Rattle.pkg_length.specs.Refusal.{gives, refuses}
+use Rattle.table.proofs.Facts.{plus-zero}
 use Rattle.table.specs.Limits.{Limits}
 use Rattle.table.specs.Tree.{Forest, none, level, Tree, bound, isLive}
 use Rattle.table.specs.Layout.{bindWord, bindingOf, flat, pad, encode}
@@ -128,10 +129,7 @@ module _ (m : Limits) (hm : m .objects ≤ 2 ^ 32) (t : Tree) (w : Whole m t) wh
     decode-levels = rw (first-is, second-is) levels-back
 
     pub third-head : getD ws (m .levels + m .bindings) 0 ≡ getD (objectPart m t) 0 0
-    third-head = ap (λ (n : ℕ). getD ws n 0) (plus (m .levels + m .bindings)) ∙ sym (getD-drop (m .levels + m .bindings) ws 0 0) ∙ ap (λ (l : List ℕ). getD l 0 0) third-is
-      where
-        plus : (n : ℕ) → n ≡ n + 0
-        plus n = omega arith
+    third-head = ap (λ (n : ℕ). getD ws n 0) (plus-zero (m .levels + m .bindings)) ∙ sym (getD-drop (m .levels + m .bindings) ws 0 0) ∙ ap (λ (l : List ℕ). getD l 0 0) third-is
 
     third-rest : drop (m .levels + m .bindings + 1) ws ≡ drop 1 (objectPart m t)
     third-rest = sym (drop-drop 1 (m .levels + m .bindings) ws) ∙ ap (drop 1) third-is

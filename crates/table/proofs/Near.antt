@@ -18,6 +18,7 @@ use Rattle.table.specs.Search.{Found, orOn, outward, valueIn}
 use Rattle.table.proofs.Shape.{Valid, level-tests, binding-tests, LevelFit}
 use Rattle.table.proofs.Whole.{Whole}
 use native.Mathlib.Numerals.{add-one}
+use Rattle.table.proofs.Facts.{suc-plus, zero-plus}
 
 pub length-keys : (cs : List Component) → length (keys cs) ≡ length cs
 unfolding keys
@@ -167,10 +168,7 @@ module _ {A : Type 0} (asks : List Component → Answer A) (ask : Level → Answ
           count k n = omega arith
       go (gives a) (refuses x y) h i = absurd h
       go (refuses x y) (gives b) h i = absurd h
-      go (refuses x y) (refuses u v) h i = i ∙ ap (λ (m : ℕ). foundOf ns m otherwise (best ask f (keys ns) 0 (refuses 0 0) n)) (sums k n)
-        where
-          sums : (k n : ℕ) → suc k + n ≡ k + suc n
-          sums k n = omega arith
+      go (refuses x y) (refuses u v) h i = i ∙ ap (λ (m : ℕ). foundOf ns m otherwise (best ask f (keys ns) 0 (refuses 0 0) n)) (suc-plus k n)
 
   -- the search is what going down finds
   pub outward-near : outward asks otherwise ns (length ns) 0 ≡ foundOf ns (length ns) otherwise (nearF ask f (keys ns) 0 (refuses 0 0))
@@ -178,9 +176,6 @@ module _ {A : Type 0} (asks : List Component → Answer A) (ask : Level → Answ
       outward-best (length ns) 0 (omega arith)
       ∙ ap₂ (λ (n : ℕ) (d : Answer (Deep A)). foundOf ns n otherwise d) (zero-plus (length ns))
       (ap (best ask f (keys ns) 0 (refuses 0 0)) (sym (length-keys ns)) ∙ sym (near-best ask f (keys ns) 0 (refuses 0 0)))
-    where
-      zero-plus : (n : ℕ) → 0 + n ≡ n
-      zero-plus n = omega arith
 
 -- keys of a scope with a segment behind it
 pub keys-append : (xs ys : List Component) → keys (xs ++ ys) ≡ keys xs ++ keys ys

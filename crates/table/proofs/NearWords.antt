@@ -27,6 +27,7 @@ use Rattle.table.proofs.Objects.{whole}
 use Rattle.table.proofs.Held.{levels-are, bindings-are}
 use Rattle.table.proofs.Near.{Deep, closer, nearF}
 use Rattle.table.proofs.Whole.{small-handles}
+use Rattle.table.proofs.Facts.{plus-zero}
 
 -- what is found, as the code holds it
 abbrev pub nearestOf : Answer (Deep ℕ) → Nearest
@@ -77,10 +78,7 @@ module _ (limit : ℕ) (live : ℕ → Bool) (hm : Small live) (s : ℕ) (bs : L
   near-past : (f : Forest) (q lo x : ℕ) (p ws : List ℕ) (r m : ℕ) (out : Nearest) → suc r < q → Valid limit live q lo f
       → nearIn s (x ∷ p) (flat q f ++ ws) bs r m out ≡ nearIn s (x ∷ p) ws bs r (m + length (bound f)) out
   unfolding flat bound
-  near-past none q lo x p ws r m out h v = ap (λ (k : ℕ). nearIn s (x ∷ p) ws bs r k out) (plus m)
-    where
-      plus : (n : ℕ) → n ≡ n + 0
-      plus n = omega arith
+  near-past none q lo x p ws r m out h v = ap (λ (k : ℕ). nearIn s (x ∷ p) ws bs r k out) (plus-zero m)
   near-past (level s′ t b kids next) q lo x p ws r m out h v =
       rw (append-assoc (flat (suc q) kids) (flat q next) ws)
       (near-deep s x p (pack q t (length b) s′) _ bs r m out (rw (rank-pack q t (length b) s′ (v .0 .small) (v .0 .few) (v .0 .fits)) h)

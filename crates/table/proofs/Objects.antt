@@ -18,12 +18,10 @@ use Rattle.table.specs.Edits.{withObjects, valueOf, setValue}
 use Rattle.table.proofs.Shape.{fit, tests-level}
 use Rattle.table.proofs.Whole.{Whole, valid-whole, whole-valid}
 use Rattle.table.proofs.Memory.{levelPart, bindPart, objectPart, length-levels, length-binds, encode-parts, encode-length, formed-whole, third-head}
+use Rattle.table.proofs.Facts.{zero-plus}
 
 pub set-append-add : (xs ys : List ℕ) (i a : ℕ) → set (xs ++ ys) (length xs + i) a ≡ xs ++ set ys i a
-set-append-add [] ys i a = ap (λ (n : ℕ). set ys n a) (plus i)
-  where
-    plus : (n : ℕ) → 0 + n ≡ n
-    plus n = omega arith
+set-append-add [] ys i a = ap (λ (n : ℕ). set ys n a) (zero-plus i)
 set-append-add (x ∷ xs) ys i a = ap (λ (n : ℕ). set (x ∷ (xs ++ ys)) n a) (plus (length xs) i) ∙ ap (λ (l : List ℕ). x ∷ l) (set-append-add xs ys i a)
   where
     plus : (m n : ℕ) → suc m + n ≡ suc (m + n)

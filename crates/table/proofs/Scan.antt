@@ -20,7 +20,7 @@ pub record Passes (limit : ℕ) (live : ℕ → Bool) (p : ℕ) (low : List ℕ)
   pub held : countOf w ≤ length bs
   pub fits : LevelFit limit live (rankOf w) (getD low (rankOf w) 0) (segOf w) (typeOf w) (map bindingOf (take (countOf w) bs))
 
-taken : (n : ℕ) (bs : List ℕ) → n ≤ length bs → length (map bindingOf (take n bs)) ≡ n
+pub taken : (n : ℕ) (bs : List ℕ) → n ≤ length bs → length (map bindingOf (take n bs)) ≡ n
 taken n bs h = length-map (take n bs) bindingOf ∙ length-take-le n bs h
 
 module _ (limit : ℕ) (live : ℕ → Bool) (p : ℕ) (low : List ℕ) (w : ℕ) (ws bs : List ℕ) where

@@ -15,6 +15,7 @@ use Rattle.table.specs.Inside.{Sought, here, before, missing, gone, seek
 use Rattle.table.proofs.Words.{rank-pack, seg-pack}
 use Rattle.table.proofs.Shape.{Valid}
 use Rattle.table.proofs.Decode.{Below, below-flat}
+use Rattle.table.proofs.Facts.{plus-zero, suc-plus}
 
 -- the index past a forest's records, the first of which stands at k
 unfoldable pub after : Forest → ℕ → ℕ
@@ -134,18 +135,12 @@ lacking r p (missing n) a = a ≡ refuses 15 n
 
 lacking-gone : (p : List ℕ) (r k : ℕ) (a : Answer Level) → a ≡ refuses 15 r → lacking r p (gone p r k) a
 unfolding gone
-lacking-gone [] r k a e = e ∙ ap (refuses 15) (plus r)
-  where
-    plus : (n : ℕ) → n ≡ n + 0
-    plus n = omega arith
+lacking-gone [] r k a e = e ∙ ap (refuses 15) (plus-zero r)
 lacking-gone (x ∷ p) r k a e = e
 
 lacking-deeper : (r : ℕ) (x : ℕ) (p : List ℕ) (s : Sought) (a : Answer Level) → lacking (suc r) p s a → lacking r (x ∷ p) s a
 lacking-deeper r x p (here j) a h = tt
-lacking-deeper r x p (before j) a h = h ∙ ap (refuses 15) (plus r (length p))
-  where
-    plus : (m n : ℕ) → suc m + n ≡ m + suc n
-    plus m n = omega arith
+lacking-deeper r x p (before j) a h = h ∙ ap (refuses 15) (suc-plus r (length p))
 lacking-deeper r x p (missing n) a h = h
 
 module _ (limit : ℕ) (live : ℕ → Bool) where
@@ -179,18 +174,12 @@ Shorter r p (missing n) long = long ≡ missing n
 
 shorter-gone : (p : List ℕ) (x : ℕ) (q : List ℕ) (r k : ℕ) → Shorter r p (gone p r k) (gone (p ++ (x ∷ q)) r k)
 unfolding gone
-shorter-gone [] x q r k = ap missing (plus r)
-  where
-    plus : (n : ℕ) → n ≡ n + 0
-    plus n = omega arith
+shorter-gone [] x q r k = ap missing (plus-zero r)
 shorter-gone (y ∷ p) x q r k = refl
 
 shorter-deeper : (r : ℕ) (y : ℕ) (p : List ℕ) (s long : Sought) → Shorter (suc r) p s long → Shorter r (y ∷ p) s long
 shorter-deeper r y p (here j) long h = tt
-shorter-deeper r y p (before j) long h = h ∙ ap missing (plus r (length p))
-  where
-    plus : (m n : ℕ) → suc m + n ≡ m + suc n
-    plus m n = omega arith
+shorter-deeper r y p (before j) long h = h ∙ ap missing (suc-plus r (length p))
 shorter-deeper r y p (missing n) long h = h
 
 pub shorter : (f : Forest) (r s : ℕ) (p : List ℕ) (x : ℕ) (q : List ℕ) (at k : ℕ) → Shorter r p (seekF f (s ∷ p) r at k) (seekF f (s ∷ (p ++ (x ∷ q))) r at k)

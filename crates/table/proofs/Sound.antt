@@ -8,8 +8,8 @@ use native.Mathlib.Omega.{arith}
 use native.Mathlib.Nat.{zero-add, suc-add, eq-or-lt-of-le}
 use native.Mathlib.Numerals.{add-one}
 use lib.Dec.{eqb}
-use lib.ListN.{length, take, drop, getD, set, replicate, length-set, take-append-drop, length-map}
-use lib.Seq.{getD-set-same, getD-set-other, length-take-le}
+use lib.ListN.{length, take, drop, getD, set, replicate, length-set, take-append-drop}
+use lib.Seq.{getD-set-same, getD-set-other}
 use borrow.Author.Tests.{eqb-true, eqb-false}
 use Rattle.name_object.specs.Memory.{allZero}
 use Rattle.pkg_length.proofs.Answers.{halves}
@@ -21,7 +21,7 @@ use Rattle.table.proofs.Facts.{lt-or-le}
 use Rattle.table.proofs.Words.{pack-unpack, words-back, map-take, map-drop}
 use Rattle.table.proofs.Shape.{Valid}
 use Rattle.table.proofs.Decode.{deeper, here, above}
-use Rattle.table.proofs.Scan.{Passes, scan-zero, scan-true}
+use Rattle.table.proofs.Scan.{Passes, scan-zero, scan-true, taken}
 
 -- the siblings of rank r to come, with the bindings as words
 unfoldable pub sibs : ℕ → List ℕ → List ℕ → Forest
@@ -94,15 +94,12 @@ module _ (w : ℕ) (ws bs : List ℕ) where
   unwindB-deeper zero h = refl
   unwindB-deeper (suc m) h = rw (sibs-deeper (suc m) w ws bs h, unwindB-deeper m (omega arith))
 
-  taken : countOf w ≤ length bs → length (map bindingOf (take (countOf w) bs)) ≡ countOf w
-  taken h = length-map (take (countOf w) bs) bindingOf ∙ length-take-le (countOf w) bs h
-
   -- the record of rank d + 1 stands before those of its children, its siblings and their enclosing levels' siblings
   unwind-here : (d : ℕ) → rankOf w ≡ suc d → countOf w ≤ length bs
       → unwind (suc d) (w ∷ ws) bs ≡ w ∷ unwind (suc (suc d)) ws (drop (countOf w) bs)
   unfolding unwind flat
   unwind-here d e h =
-      rw (sibs-here (suc d) w ws bs e, unwind-deeper d (omega arith), taken h)
+      rw (sibs-here (suc d) w ws bs e, unwind-deeper d (omega arith), taken (countOf w) bs h)
       (ap₂ {C = List ℕ} _∷_ (pack-at w (suc d) e)
       (append-assoc (flat (suc (suc d)) (sibs (suc (suc d)) ws (drop (countOf w) bs)))
       (flat (suc d) (sibs (suc d) ws (drop (countOf w) bs)))

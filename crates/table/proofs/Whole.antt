@@ -10,6 +10,7 @@ use lib.Seq.{drop-at, length-take-le}
 use borrow.Author.Tests.{ne-eqb, le-leb, eqb-false, leb-true, ltb-true}
 use Rattle.pkg_length.proofs.Answers.{halves}
 use Rattle.name_object.specs.Memory.{allZero}
+use Rattle.table.proofs.Facts.{getD-zeros}
 use Rattle.table.specs.Limits.{Limits}
 use Rattle.table.specs.Tree.{Binding, Forest, none, level, Tree, bound, levelCount, isLive}
 use Rattle.table.specs.Layout.{pack, bindWord, flat, pad}
@@ -103,12 +104,7 @@ length-lowest limit = length-replicate {A = ℕ} (limit + 2) 0
 
 low-at : (limit r : ℕ) → getD (lowest limit) r 0 ≡ 0
 unfolding lowest
-low-at limit r = all (limit + 2) r
-  where
-    all : (n i : ℕ) → getD {A = ℕ} (replicate n 0) i 0 ≡ 0
-    all zero i = refl
-    all (suc n) zero = refl
-    all (suc n) (suc i) = all n i
+low-at limit r = getD-zeros (limit + 2) r
 
 module _ (m : Limits) (ls bs : List ℕ) (n : ℕ) (vs : List ℕ) (ll : length ls ≡ m .levels) (lb : length bs ≡ m .bindings) (lo : length vs ≡ m .objects)
     (hn : n ≤ m .objects) (hz : allZero (drop n vs) ≡ true) (h0 : getD ls 0 0 ≡ 0 → ⊥) (g : Good (m .components) (below n) 0 (lowest (m .components)) ls bs) where
