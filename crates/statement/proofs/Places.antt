@@ -11,9 +11,9 @@ use Rattle.pkg_length.specs.Pkg.{Raw, spelt}
 use Rattle.statement.specs.declared.opcode.Dest.{Dest}
 use Rattle.statement.specs.declared.opcode.Dest.the-variants.{Nowhere, ToCell, ToTarget}
 use Rattle.statement.specs.Opcode.{isCell}
-use Rattle.statement.specs.Reading.{Target, nowhere, to, Term, Stmt, Stmts}
+use Rattle.statement.specs.Tree.{Target, nowhere, to, Term, Stmt, Stmts}
 use Rattle.statement.specs.Grammar.{depthLimit}
-use Rattle.statement.specs.Refusal.{reads, thenRead, readCell, readDest, Operand, Operands, readOne, readTwo, readTerm, moved, readPackage, Head, readHead, elseBy, readElse, readIf, readList}
+use Rattle.statement.specs.Reader.{reads, thenRead, readCell, readDest, Operand, Operands, readOne, readTwo, readTerm, moved, readPackage, Head, readHead, elseBy, readElse, readIf, readList}
 use Rattle.statement.proofs.Answers.{never, then-by, and-by, pick-ok, Takes}
 use Rattle.statement.proofs.Terms.{term-sound, term-complete}
 use Rattle.statement.proofs.Statements.{lists-sound, lists-complete}

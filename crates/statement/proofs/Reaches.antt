@@ -19,9 +19,9 @@ use Rattle.statement.specs.declared.opcode.TermOp.{TermOp}
 use Rattle.statement.specs.declared.opcode.StmtOp.{StmtOp}
 use Rattle.statement.specs.declared.opcode.StmtOp.the-variants.{Expr}
 use Rattle.statement.specs.Opcode.{isCell, termOp, stmtOp, expression}
-use Rattle.statement.specs.Reading.{to, Term, Stmt, expr, Stmts, cons}
+use Rattle.statement.specs.Tree.{to, Term, Stmt, expr, Stmts, cons}
 use Rattle.statement.specs.Grammar.{depthLimit}
-use Rattle.statement.specs.Refusal.{Read, read, reads, thenRead, readBytes, readCell, readDest, operand, before, readOne, readTwo, termBy, readTerm, moved, readPackage, Head, head, ifOf, readExpr, readHead, readElse, readIf, stmtBy, listBy, readStmt, readList}
+use Rattle.statement.specs.Reader.{Read, read, reads, thenRead, readBytes, readCell, readDest, operand, before, readOne, readTwo, termBy, readTerm, moved, readPackage, Head, head, ifOf, readExpr, readHead, readElse, readIf, stmtBy, listBy, readStmt, readList}
 use Rattle.statement.specs.declared.term.Reach.{Reach}
 use Rattle.statement.specs.declared.read.Package.{Package}
 use Rattle.statement.specs.Said.{«NEXT», refusalOf, reached, packed, upTo}

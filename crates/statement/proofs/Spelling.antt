@@ -12,7 +12,7 @@ use Rattle.pkg_length.specs.Refusal.{Answer, gives, refuses}
 use Rattle.pkg_length.specs.Little.{little}
 use Rattle.pkg_length.specs.Pkg.{Raw, spelt, fromRaw}
 use Rattle.statement.specs.Grammar.{Spells, spelt-plain, spelt-extra, Package, d-package}
-use Rattle.statement.specs.Refusal.{moved, readPackage}
+use Rattle.statement.specs.Reader.{moved, readPackage}
 use Rattle.statement.proofs.Answers.{never, and-by, pick-ok}
 
 -- bytes that were read as a length

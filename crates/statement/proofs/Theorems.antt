@@ -16,9 +16,9 @@ use Rattle.statement.specs.declared.CheckAnswer.the-variants.{Accepted, 
 use Rattle.statement.specs.declared.End.{End}
 use Rattle.statement.specs.declared.RunAnswer.{RunAnswer}
 use Rattle.statement.specs.declared.frame.Frame.{Frame}
-use Rattle.statement.specs.Reading.{Stmts}
+use Rattle.statement.specs.Tree.{Stmts}
 use Rattle.statement.specs.Grammar.{depthLimit, DStmts}
-use Rattle.statement.specs.Refusal.{Read, read, readList, treeOf, readBlock}
+use Rattle.statement.specs.Reader.{Read, read, readList, treeOf, readBlock}
 use Rattle.statement.specs.Said.{upTo}
 use Rattle.statement.specs.Meaning.{width, Ended, finished, returned, breakOut, continueOut, Ran, Outcome, outcome, mean}
 use Rattle.statement.specs.Lent.{Accepts, ranOf}

@@ -14,7 +14,7 @@ use Rattle.statement.specs.declared.opcode.Dest.the-variants.{Nowhere, T
 use Rattle.statement.specs.declared.opcode.TermOp.the-variants.{Constant, Ones, Bytes, Step, One, Two}
 use Rattle.statement.specs.declared.opcode.StmtOp.the-variants.{Simple, Return, If, While, Expr}
 use Rattle.statement.specs.Opcode.{«NULL_NAME», «LOCAL0_OP», «DEF_ELSE_OP», termOp, stmtOp, expression}
-use Rattle.statement.specs.Reading.{Target, nowhere, to, Term, const, ones, cell, step, one, two, Stmt, plain, return, ifElse, while, expr, Stmts, nil, cons}
+use Rattle.statement.specs.Tree.{Target, nowhere, to, Term, const, ones, cell, step, one, two, Stmt, plain, return, ifElse, while, expr, Stmts, nil, cons}
 
 -- statements and terms of at most this depth
 abbrev pub depthLimit : ℕ

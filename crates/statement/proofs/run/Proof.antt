@@ -1,7 +1,7 @@
 -- The check's refusal, or the meaning of what it read.
 use mathlib.Core.Path.{ap}
 use Rattle.statement.specs.Grammar.{depthLimit}
-use Rattle.statement.specs.Refusal.{readList}
+use Rattle.statement.specs.Reader.{readList}
 use Rattle.statement.specs.Meaning.{Ran}
 use Rattle.statement.proofs.Runs.{ran-left}
 use Rattle.statement.proofs.Theorems.{run-ready, run-from-refusal, run-from-meaning}

@@ -2,7 +2,7 @@
 use mathlib.Core.Path.{refl, sym, _∙_}
 use Prim.Native.Nat.{ℕ, _<_, _+_, _-_, _*_}
 use lib.ListN.{getD}
-use Rattle.statement.specs.Refusal.{readTerm}
+use Rattle.statement.specs.Reader.{readTerm}
 use Rattle.statement.specs.Lent.{framed}
 use Rattle.statement.proofs.Tables.{is-cell, op-cell, op-bytes}
 use Rattle.statement.proofs.Evals as evals

@@ -5,7 +5,7 @@ use lib.ListN.{length, drop, length-take, length-drop}
 use Rattle.pkg_length.specs.Refusal.{gives}
 use Rattle.statement.specs.declared.exec.Out.{Out}
 use Rattle.statement.specs.Grammar.{depthLimit}
-use Rattle.statement.specs.Refusal.{readTerm, readList}
+use Rattle.statement.specs.Reader.{readTerm, readList}
 use Rattle.statement.specs.Meaning.{finished, ended, goOf}
 use Rattle.statement.specs.Lent.{Accepts, spanned, framed, outSaid, wayOf, stepAt, stepF, ranOf, turnsBy}
 use Rattle.statement.proofs.Reaches.{package-in}

@@ -2,9 +2,9 @@
 use mathlib.Core.Path.{_≡_, refl, sym, _∙_, ap}
 use Prim.Native.Nat.{ℕ, _<_, _≤_, _+_, _-_, _*_}
 use lib.ListN.{length, drop, length-take, length-drop}
-use Rattle.statement.specs.Reading.{Stmt, return}
+use Rattle.statement.specs.Tree.{Stmt, return}
 use Rattle.statement.specs.Grammar.{depthLimit}
-use Rattle.statement.specs.Refusal.{readTerm, readList, readIf, readHead, whileOf}
+use Rattle.statement.specs.Reader.{readTerm, readList, readIf, readHead, whileOf}
 use Rattle.statement.specs.Said.{upTo}
 use Rattle.statement.proofs.Reaches as reaches
 use borrow.Author.Needs.{needs}

@@ -2,8 +2,8 @@
 use mathlib.Core.Path.{refl, sym, _∙_}
 use Prim.Native.Nat.{ℕ, _<_, _+_, _-_, _*_}
 use lib.ListN.{drop}
-use Rattle.statement.specs.Reading.{step}
-use Rattle.statement.specs.Refusal.{readBytes, readCell, readOne, readTwo, readTerm, oneOf, twoOf}
+use Rattle.statement.specs.Tree.{step}
+use Rattle.statement.specs.Reader.{readBytes, readCell, readOne, readTwo, readTerm, oneOf, twoOf}
 use Rattle.statement.proofs.Reaches as reaches
 use borrow.Author.Needs.{needs}
 use native.Mathlib.Omega.{arith}

@@ -17,7 +17,7 @@ use Rattle.statement.specs.declared.opcode.TermOp.the-variants.{Constant
 use Rattle.statement.specs.declared.opcode.StmtOp.{StmtOp}
 use Rattle.statement.specs.declared.opcode.StmtOp.the-variants.{Simple, Return, If, While, Expr}
 use Rattle.statement.specs.Opcode.{«NULL_NAME», «LOCAL0_OP», «DEF_ELSE_OP», isCell, termOp, stmtOp, expression}
-use Rattle.statement.specs.Reading.{Target, nowhere, to, Term, const, ones, cell, step, one, two, Stmt, plain, return, ifElse, while, expr, Stmts, nil, cons}
+use Rattle.statement.specs.Tree.{Target, nowhere, to, Term, const, ones, cell, step, one, two, Stmt, plain, return, ifElse, while, expr, Stmts, nil, cons}
 use Rattle.statement.specs.Grammar.{depthLimit}
 
 -- what was read, and how many bytes it took
