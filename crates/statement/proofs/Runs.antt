@@ -27,7 +27,8 @@ use Rattle.statement.specs.Lent.{Accepts, Evaled, evAt, evaledBy, outSai
 use Rattle.statement.proofs.Answers.{Takes, then-by, and-by, pick-ok}
 use Rattle.statement.proofs.Statements.{stmt-sound}
 use Rattle.statement.proofs.Reaches.{here, stmt-is-by, list-eq}
-use Rattle.statement.proofs.Places.{term-any, package-any, list-any, else-any, head-any, if-any}
+use Rattle.statement.proofs.Packages.{package-any}
+use Rattle.statement.proofs.Places.{term-any, list-any, else-any, head-any, if-any}
 use Rattle.statement.proofs.Evals.{acc-ok, is-acc, acc-then, acc-same, ev-num, ev-missing}
 
 -- ## No statement makes units
