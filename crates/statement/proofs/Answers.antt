@@ -6,7 +6,7 @@ use Prim.Native.Nat.{ℕ, _≤_, _<_}
 use native.Mathlib.Omega.{arith}
 use lib.ListN.{length, take}
 use Rattle.pkg_length.specs.Refusal.{Answer, gives, refuses, andThen}
-use Rattle.statement.specs.Refusal.{Read, read, reads, thenRead}
+use Rattle.statement.specs.Reader.{Read, read, reads, thenRead}
 
 -- a test by cases
 pub pick-by : {A : Type 0} (P : A → Type 0) (t : Bool) {x y : A} → (t ≡ true → P x) → (t ≡ false → P y) → P (cond t x y)

@@ -20,8 +20,8 @@ use Rattle.statement.specs.declared.opcode.Dest.the-variants.{Nowhere, T
 use Rattle.statement.specs.declared.opcode.TermOp.{TermOp}
 use Rattle.statement.specs.declared.opcode.TermOp.the-variants.{Bytes, Cell, Step, One, Two}
 use Rattle.statement.specs.Opcode.{isCell, termOp}
-use Rattle.statement.specs.Reading.{Target, to, Term, const, ones, cell}
-use Rattle.statement.specs.Refusal.{Read, read, reads, thenRead, readBytes, readCell, readDest, Operand, operand, Operands, before, readOne, readTwo, termBy, readTerm}
+use Rattle.statement.specs.Tree.{Target, to, Term, const, ones, cell}
+use Rattle.statement.specs.Reader.{Read, read, reads, thenRead, readBytes, readCell, readDest, Operand, operand, Operands, before, readOne, readTwo, termBy, readTerm}
 use Rattle.statement.specs.Frames.{wrote}
 use Rattle.statement.specs.Meaning.{width, allOnes, stepped, unary, binary, Ev, got, lacks, onValue, load, put, eval}
 use Rattle.statement.specs.Lent.{Accepts, Evaled, evAt, evaledBy, evOne, evTwo, evSecond, evPut}

@@ -1,6 +1,6 @@
 pub mod Answers
 pub mod Tables
-pub mod Spelling
+pub mod Packages
 pub mod Terms
 pub mod Statements
 mod Reaches

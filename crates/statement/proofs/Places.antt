@@ -11,13 +11,13 @@ use Rattle.pkg_length.specs.Pkg.{Raw, spelt}
 use Rattle.statement.specs.declared.opcode.Dest.{Dest}
 use Rattle.statement.specs.declared.opcode.Dest.the-variants.{Nowhere, ToCell, ToTarget}
 use Rattle.statement.specs.Opcode.{isCell}
-use Rattle.statement.specs.Reading.{Target, nowhere, to, Term, Stmt, Stmts}
+use Rattle.statement.specs.Tree.{Target, nowhere, to, Term, Stmt, Stmts}
 use Rattle.statement.specs.Grammar.{depthLimit}
-use Rattle.statement.specs.Refusal.{reads, thenRead, readCell, readDest, Operand, Operands, readOne, readTwo, readTerm, moved, readPackage, Head, readHead, elseBy, readElse, readIf, readList}
+use Rattle.statement.specs.Reader.{reads, thenRead, readCell, readDest, Operand, Operands, readOne, readTwo, readTerm, moved, readPackage, Head, readHead, elseBy, readElse, readIf, readList}
 use Rattle.statement.proofs.Answers.{never, then-by, and-by, pick-ok, Takes}
 use Rattle.statement.proofs.Terms.{term-sound, term-complete}
 use Rattle.statement.proofs.Statements.{lists-sound, lists-complete}
-use Rattle.statement.proofs.Reaches.{ownOf, package-is}
+use Rattle.statement.proofs.Packages.{package-any}
 
 pub cell-any : (p q : ℕ) (s : List ℕ) (c k : ℕ) → readCell p s ≡ reads c k → readCell q s ≡ reads c k
 cell-any p q [] c k e = never e
@@ -58,13 +58,6 @@ module _ (l : ℕ) (d : Dest) where
       then-by (readTerm l p s) _ e λ t i e₁ f₁.
       then-by (readOne (readTerm l) d (p + i) (drop i s)) _ f₁ λ y j e₂ f₂.
       rw (term-any l p q s t i e₁, one-any (p + i) (q + i) (drop i s) y j e₂) f₂
-
-moved-any : {A : Type 0} (p q : ℕ) (r : Answer A) (a : A) → moved p r ≡ gives a → moved q r ≡ gives a
-moved-any p q (gives x) a e = e
-moved-any p q (refuses n m) a e = never e
-
-pub package-any : (p q : ℕ) (s : List ℕ) (w : Raw) → readPackage p s ≡ gives w → readPackage q s ≡ gives w
-package-any p q s w e = package-is s q ∙ moved-any p q (andThen (spelt s) (ownOf s)) w (sym (package-is s p) ∙ e)
 
 pub list-any : (l p q : ℕ) (s : List ℕ) (xs : Stmts) (k : ℕ) → readList l p s ≡ reads xs k → readList l q s ≡ reads xs k
 list-any l p q s xs k e =

@@ -19,15 +19,16 @@ use Rattle.statement.specs.declared.opcode.TermOp.{TermOp}
 use Rattle.statement.specs.declared.opcode.StmtOp.{StmtOp}
 use Rattle.statement.specs.declared.opcode.StmtOp.the-variants.{Expr}
 use Rattle.statement.specs.Opcode.{isCell, termOp, stmtOp, expression}
-use Rattle.statement.specs.Reading.{to, Term, Stmt, expr, Stmts, cons}
+use Rattle.statement.specs.Tree.{to, Term, Stmt, expr, Stmts, cons}
 use Rattle.statement.specs.Grammar.{depthLimit}
-use Rattle.statement.specs.Refusal.{Read, read, reads, thenRead, readBytes, readCell, readDest, operand, before, readOne, readTwo, termBy, readTerm, moved, readPackage, Head, head, ifOf, readExpr, readHead, readElse, readIf, stmtBy, listBy, readStmt, readList}
+use Rattle.statement.specs.Reader.{Read, read, reads, thenRead, readBytes, readCell, readDest, operand, before, readOne, readTwo, termBy, readTerm, moved, readPackage, Head, head, ifOf, readExpr, readHead, readElse, readIf, stmtBy, listBy, readStmt, readList}
 use Rattle.statement.specs.declared.term.Reach.{Reach}
 use Rattle.statement.specs.declared.read.Package.{Package}
 use Rattle.statement.specs.Said.{«NEXT», refusalOf, reached, packed, upTo}
 use Rattle.statement.specs.Lent.{Accepts}
 use Rattle.statement.proofs.Answers.{Takes}
-use Rattle.statement.proofs.Spelling.{Packs, package-sound}
+use Rattle.pkg_length.proofs.Packages.{Packs}
+use Rattle.statement.proofs.Packages.{package-sound}
 use Rattle.statement.proofs.Terms.{term-sound}
 use Rattle.statement.proofs.Statements.{stmt-sound, head-sound, lists-sound}
 
@@ -81,10 +82,6 @@ same-reach at (refuses n p) f = refl
 -- the bytes from a place within a part
 pub here : (s : List ℕ) (at : ℕ) → at < length s → drop at s ≡ getD s at 0 ∷ drop (at + 1) s
 here s at h = rw (add-one, drop-cons s at 0 h)
-
--- the part from a place to its end
-pub tail : (s : List ℕ) (at : ℕ) → take (length s - at) (drop at s) ≡ drop at s
-tail s at = take-all (length s - at) (drop at s) (omega (arith, length-drop at s))
 
 -- from the next byte on
 pub next-one : {A B : Type 0} (reader : ℕ → List ℕ → Answer (Read A)) (f : A → B) (b at : ℕ) (s : List ℕ) (a : Answer ℕ) →
@@ -196,124 +193,6 @@ module _ (l b at : ℕ) (s : List ℕ) (d : Dest) where
       let q₁ : b + at + k ≡ b + m = omega arith in
       let q₂ : at + k ≡ m = omega arith in
       rw (g, q₁, drop-drop k at s, q₂) (f ∙ sym (after at (readOne (readTerm l) d (b + m) (drop m s)) (before t) k ∙ ap (λ (z : ℕ). upTo z (readOne (readTerm l) d (b + m) (drop m s))) q₂))
-
--- ## Packages: what the layer below promises of a part, as this layer reads it
-
-spelt-refuses : (t : List ℕ) (n q : ℕ) → spelt t ≡ refuses n q → (n ≡ 1) × (q ≤ length t)
-unfolding spelt
-spelt-refuses [] n q e = (let z : 1 ≡ n = cc in sym z, let z : 0 ≡ q = cc in omega arith)
-spelt-refuses (lead ∷ rest) n q e =
-    go (eqb (lead / 64) 0) (leb (lead / 64) (length rest))
-    (record { raw = lead % 64; used = 1 })
-    (record { raw = lead % 16 + 16 * little (take (lead / 64) rest); used = 1 + lead / 64 }) e
-  where
-    go : (x y : Bool) (a b : Raw) → cond x (gives a) (cond y (gives b) (refuses 1 (suc (length rest)))) ≡ refuses n q → (n ≡ 1) × (q ≤ suc (length rest))
-    go true y a b e = absurd (let z : _≡_ {A = ℕ} 0 1 = cc in omega arith)
-    go false true a b e = absurd (let z : _≡_ {A = ℕ} 0 1 = cc in omega arith)
-    go false false a b e = (let z : 1 ≡ n = cc in sym z, let z : suc (length rest) ≡ q = cc in omega arith)
-
-module _ (t : List ℕ) where
-  -- what the layer below makes of a raw length, and what this one does
-  abbrev pkgOf : Raw → Answer Pkg
-  pkgOf a = andThen (fromRaw (length t) (a .raw)) (λ l. gives (record { length-read = l; used = a .used }))
-
-  abbrev pub ownOf : Raw → Answer Raw
-  ownOf a = andThen (fromRaw (length t) (a .raw)) (λ l. cond (leb (a .used) (a .raw)) (gives a) (refuses 2 0))
-
-  pkg-is : length t ≤ blockLimit → pkgLength t ≡ andThen (spelt t) pkgOf
-  unfolding pkgLength rawLength
-  pkg-is h = rw (le-leb (length t) blockLimit h)
-
-  pub package-is : (p : ℕ) → readPackage p t ≡ moved p (andThen (spelt t) ownOf)
-  unfolding readPackage
-  package-is p = refl
-
-  abbrev lengthOf : Raw → PkgLength
-  lengthOf a = record { «raw_length» = a .raw; «end_offset» = length t - a .raw }
-
-  abbrev pkg : PkgLength → ℕ → Pkg
-  pkg l u = record { length-read = l; used = u }
-
-  unfit : (a : Raw) → length t < a .raw → fromRaw (length t) (a .raw) ≡ refuses 2 0
-  unfolding fromRaw
-  unfit a h = rw (lt-leb (a .raw) (length t) h)
-
-  fit : (a : Raw) → a .raw ≤ length t → fromRaw (length t) (a .raw) ≡ gives (lengthOf a)
-  unfolding fromRaw
-  fit a h = rw (le-leb (a .raw) (length t) h)
-
-  -- a refusal of the layer below: 1 or 2, at a place within the part
-  pub record Refuses (p n q : ℕ) : Type 0 where
-    pub is : refuses n (p + q) ≡ readPackage p t
-    pub inside : q ≤ length t
-    pub one-or-two : (n ≡ 1 → ⊥) → n ≡ 2
-
-  module _ (p : ℕ) (short : length t ≤ blockLimit) where
-    pub package-no : (n q : ℕ) → refuses n q ≡ pkgLength t → Refuses p n q
-    package-no n q e = go (spelt t) refl (e ∙ pkg-is short)
-      where
-        lies : (a : Raw) → spelt t ≡ gives a → (n ≡ 2) × (q ≡ 0) × (length t < a .raw) → Refuses p n q
-        lies a f h =
-            record {
-              is = rw (h .0, h .1) (sym (package-is p ∙ rw (f, unfit a (h .2))));
-              inside = omega (arith, h .1);
-              one-or-two = λ _. h .0;
-            }
-
-        tried : (a : Raw) (b : Bool) → leb (a .raw) (length t) ≡ b → refuses n q ≡ pkgOf a → (n ≡ 2) × (q ≡ 0) × (length t < a .raw)
-        tried a true h f = absurd (let g : _≡_ {A = Answer Pkg} (refuses n q) (gives (pkg (lengthOf a) (a .used))) = f ∙ rw (fit a (leb-true _ _ h)) in let z : _≡_ {A = ℕ} 0 1 = cc in omega arith)
-        tried a false h f =
-            let lt : length t < a .raw = leb-false (a .raw) (length t) h in
-            let g : refuses n q ≡ refuses 2 0 = f ∙ rw (unfit a lt) in
-            (let z : n ≡ 2 = cc in z, let z : q ≡ 0 = cc in z, lt)
-
-        go : (R : Answer Raw) → spelt t ≡ R → refuses n q ≡ andThen R pkgOf → Refuses p n q
-        go (gives a) f h = lies a f (tried a (leb (a .raw) (length t)) refl h)
-        go (refuses c m) f h =
-            let y : n ≡ c = cc in
-            let z : q ≡ m = cc in
-            let k = spelt-refuses t c m f in
-            record {
-              is = rw (y, z) (sym (package-is p ∙ rw f));
-              inside = omega (arith, k .1);
-              one-or-two = λ ne. absurd (ne (y ∙ k .0));
-            }
-
-    -- a length that was read: it lies within the part, and holds its own bytes or not
-    module _ (l : PkgLength) (u : ℕ) (e : gives (pkg l u) ≡ pkgLength t) where
-      read-as : {X : Type 0} → ((a : Raw) → spelt t ≡ gives a → a .raw ≤ length t → a .raw ≡ l .«raw_length» → a .used ≡ u → X) → X
-      read-as {X} g = go (spelt t) refl (e ∙ pkg-is short)
-        where
-          tried : (a : Raw) (b : Bool) → leb (a .raw) (length t) ≡ b → spelt t ≡ gives a → gives (pkg l u) ≡ pkgOf a → X
-          tried a true h f q =
-              let le : a .raw ≤ length t = leb-true _ _ h in
-              let w : gives (pkg l u) ≡ gives (pkg (lengthOf a) (a .used)) = q ∙ rw (fit a le) in
-              let v : pkg l u ≡ pkg (lengthOf a) (a .used) = cc in
-              g a f le (sym (ap (λ (x : Pkg). x .length-read .«raw_length») v)) (sym (ap (λ (x : Pkg). x .used) v))
-          tried a false h f q = absurd (let w : gives (pkg l u) ≡ refuses 2 0 = q ∙ rw (unfit a (leb-false _ _ h)) in let z : _≡_ {A = ℕ} 0 1 = cc in omega arith)
-
-          go : (R : Answer Raw) → spelt t ≡ R → gives (pkg l u) ≡ andThen R pkgOf → X
-          go (gives a) f h = tried a (leb (a .raw) (length t)) refl f h
-          go (refuses c m) f h = absurd (let z : _≡_ {A = ℕ} 0 1 = cc in omega arith)
-
-      pub package-early : l .«raw_length» < u → refuses 2 p ≡ readPackage p t
-      package-early lt =
-          read-as λ a f le e₁ e₂.
-          let q : p + 0 ≡ p = omega arith in
-          sym (package-is p ∙ rw (f, fit a le, lt-leb (a .used) (a .raw) (omega arith), q))
-
-      pub package-yes : u ≤ l .«raw_length» → gives (record { raw = l .«raw_length»; used = u }) ≡ readPackage p t
-      package-yes h =
-          read-as λ a f le e₁ e₂.
-          sym (package-is p ∙ rw (f, fit a le, le-leb (a .used) (a .raw) (omega arith), ← e₁, ← e₂))
-
-      -- a package that is known to be good
-      pub package-held : Accepts (readPackage p t) → gives (record { raw = l .«raw_length»; used = u }) ≡ readPackage p t
-      package-held acc = go (leb u (l .«raw_length»)) refl
-        where
-          go : (b : Bool) → leb u (l .«raw_length») ≡ b → gives (record { raw = l .«raw_length»; used = u }) ≡ readPackage p t
-          go true h = package-yes (leb-true _ _ h)
-          go false h = absurd (subst (λ (R : Answer Raw). Accepts R) (sym (package-early (leb-false _ _ h))) acc)
 
 -- ## Lists
 

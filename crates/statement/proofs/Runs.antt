@@ -18,16 +18,17 @@ use Rattle.statement.specs.declared.opcode.Plain.{Plain}
 use Rattle.statement.specs.declared.opcode.Plain.the-variants.{Break, Continue, BreakPoint, Noop}
 use Rattle.statement.specs.declared.opcode.StmtOp.{StmtOp}
 use Rattle.statement.specs.Opcode.{termOp, stmtOp, expression}
-use Rattle.statement.specs.Reading.{Term, Stmt, plain, return, ifElse, while, expr, Stmts, nil, cons}
+use Rattle.statement.specs.Tree.{Term, Stmt, plain, return, ifElse, while, expr, Stmts, nil, cons}
 use Rattle.statement.specs.Grammar.{depthLimit}
-use Rattle.statement.specs.Refusal.{Read, read, reads, thenRead, readTerm, readPackage, Head, head, whileOf, readExpr, readHead, elseBy, readElse, readIf, stmtBy, listBy, readStmt, readList}
+use Rattle.statement.specs.Reader.{Read, read, reads, thenRead, readTerm, readPackage, Head, head, whileOf, readExpr, readHead, elseBy, readElse, readIf, stmtBy, listBy, readStmt, readList}
 use Rattle.statement.specs.Meaning.{width, Ev, got, lacks, eval, Ended, finished, returned, breakOut, continueOut, Ran, ended, spend, test, goOn, plainEnd, Go, again, ends, goOf, Turn, turned, turnTest, oneTurn, afterTurn, turns, doStmt, doStmts}
 use Rattle.statement.specs.Said.{upTo}
 use Rattle.statement.specs.Lent.{Accepts, Evaled, evAt, evaledBy, outSaid, on, stop, Step, wayOf, stepAt, stepF, ranOf, stepOf, stepDo, whileDo, bodyFrom, TurnsOk, turnOf, turnsBy, movedTo, plainTo, returnTo, dropTo}
 use Rattle.statement.proofs.Answers.{Takes, then-by, and-by, pick-ok}
 use Rattle.statement.proofs.Statements.{stmt-sound}
 use Rattle.statement.proofs.Reaches.{here, stmt-is-by, list-eq}
-use Rattle.statement.proofs.Places.{term-any, package-any, list-any, else-any, head-any, if-any}
+use Rattle.statement.proofs.Packages.{package-any}
+use Rattle.statement.proofs.Places.{term-any, list-any, else-any, head-any, if-any}
 use Rattle.statement.proofs.Evals.{acc-ok, is-acc, acc-then, acc-same, ev-num, ev-missing}
 
 -- ## No statement makes units

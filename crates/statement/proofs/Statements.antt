@@ -13,11 +13,13 @@ use Rattle.pkg_length.specs.Pkg.{Raw}
 use Rattle.statement.specs.declared.opcode.StmtOp.{StmtOp}
 use Rattle.statement.specs.declared.opcode.StmtOp.the-variants.{Simple, Return, If, While, Expr}
 use Rattle.statement.specs.Opcode.{termOp, stmtOp, look, expression}
-use Rattle.statement.specs.Reading.{Term, Stmt, ifElse, expr, Stmts, nil, cons}
-use Rattle.statement.specs.Grammar.{depthLimit, DTerm, Package, DStmt, d-plain, d-return, d-if, d-while, d-expr, DHead, d-head, DElse, d-none, d-else, DStmts, d-nil, d-cons}
-use Rattle.statement.specs.Refusal.{Read, reads, readTerm, readPackage, Head, head, ifOf, whileOf, readExpr, readHead, elseBy, readElse, readIf, stmtBy, listBy, readStmt, readList}
+use Rattle.statement.specs.Tree.{Term, Stmt, ifElse, expr, Stmts, nil, cons}
+use Rattle.statement.specs.Grammar.{depthLimit, DTerm, DStmt, d-plain, d-return, d-if, d-while, d-expr, DHead, d-head, DElse, d-none, d-else, DStmts, d-nil, d-cons}
+use Rattle.statement.specs.Reader.{Read, reads, readTerm, readPackage, Head, head, ifOf, whileOf, readExpr, readHead, elseBy, readElse, readIf, stmtBy, listBy, readStmt, readList}
 use Rattle.statement.proofs.Answers.{never, then-by, and-by, pick-ok, Follows, Takes, as-follows, as-takes}
-use Rattle.statement.proofs.Spelling.{Packs, package-sound, package-complete}
+use Rattle.pkg_length.proofs.Packages.{Packs}
+use Rattle.pkg_length.specs.Package.{Package}
+use Rattle.statement.proofs.Packages.{package-sound, package-complete}
 use Rattle.statement.proofs.Terms.{term-sound, term-complete}
 
 -- ## Sound

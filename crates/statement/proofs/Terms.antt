@@ -15,9 +15,9 @@ use Rattle.statement.specs.declared.opcode.Dest.the-variants.{Nowhere, T
 use Rattle.statement.specs.declared.opcode.TermOp.{TermOp}
 use Rattle.statement.specs.declared.opcode.TermOp.the-variants.{Constant, Ones, Bytes, Cell, Step, One, Two, BadTerm}
 use Rattle.statement.specs.Opcode.{isCell, termOp}
-use Rattle.statement.specs.Reading.{Target, nowhere, to, Term, const, cell}
+use Rattle.statement.specs.Tree.{Target, nowhere, to, Term, const, cell}
 use Rattle.statement.specs.Grammar.{DCell, d-cell, DDest, d-nowhere, d-to-cell, d-null, d-target, DTerm, d-constant, d-ones, d-bytes, d-read, d-step, d-one, d-two}
-use Rattle.statement.specs.Refusal.{Read, reads, thenRead, readBytes, readCell, readTarget, readDest, Operand, operand, Operands, operands, before, readOne, readTwo, oneOf, twoOf, termBy, readTerm}
+use Rattle.statement.specs.Reader.{Read, reads, thenRead, readBytes, readCell, readTarget, readDest, Operand, operand, Operands, operands, before, readOne, readTwo, oneOf, twoOf, termBy, readTerm}
 use Rattle.statement.proofs.Answers.{never, then-by, pick-ok, Follows, Takes, as-follows, as-takes}
 use Rattle.statement.proofs.Tables.{is-cell, cell-is, cell-op, op-cell}
 

@@ -1,10 +1,11 @@
 -- The grammar: which bytes derive which tree, with so many depths left. Nothing here reads: a byte is what the tables say, and parts stand one behind the other.
-use Prim.Native.Nat.{ℕ, suc, _+_, _*_, _<_}
+use Prim.Native.Nat.{ℕ, suc, _+_, _<_}
 use mathlib.Core.Path.{_≡_}
 use mathlib.Core.Bool.{true}
 use mathlib.Core.List.{List, [], _∷_, _++_}
 use lib.ListN.{length}
 use Rattle.pkg_length.specs.Little.{little}
+use Rattle.pkg_length.specs.Package.{Package}
 use Rattle.statement.specs.declared.opcode.Plain.{Plain}
 use Rattle.statement.specs.declared.opcode.StepOp.{StepOp}
 use Rattle.statement.specs.declared.opcode.OneOp.{OneOp}
@@ -14,7 +15,7 @@ use Rattle.statement.specs.declared.opcode.Dest.the-variants.{Nowhere, T
 use Rattle.statement.specs.declared.opcode.TermOp.the-variants.{Constant, Ones, Bytes, Step, One, Two}
 use Rattle.statement.specs.declared.opcode.StmtOp.the-variants.{Simple, Return, If, While, Expr}
 use Rattle.statement.specs.Opcode.{«NULL_NAME», «LOCAL0_OP», «DEF_ELSE_OP», termOp, stmtOp, expression}
-use Rattle.statement.specs.Reading.{Target, nowhere, to, Term, const, ones, cell, step, one, two, Stmt, plain, return, ifElse, while, expr, Stmts, nil, cons}
+use Rattle.statement.specs.Tree.{Target, nowhere, to, Term, const, ones, cell, step, one, two, Stmt, plain, return, ifElse, while, expr, Stmts, nil, cons}
 
 -- statements and terms of at most this depth
 abbrev pub depthLimit : ℕ
@@ -46,16 +47,6 @@ pub data DTerm : ℕ → Term → List ℕ → Type 0 where
       termOp b ≡ One o d → DTerm l t s → DDest d x w → DTerm (suc l) (one o t x) (b ∷ s ++ w)
   d-two : {l b : ℕ} {o : TwoOp} {d : Dest} {t u : Term} {x : Target} {s r w : List ℕ} →
       termOp b ≡ Two o d → DTerm l t s → DTerm l u r → DDest d x w → DTerm (suc l) (two o t u x) (b ∷ s ++ (r ++ w))
-
--- which bytes spell a raw length: bits 7-6 of the lead byte count the extra bytes (as it is a byte, at most 3), and bits 5-4 are ignored where there are any
-pub data Spells : ℕ → List ℕ → Type 0 where
-  spelt-plain : {n : ℕ} → n < 64 → Spells n (n ∷ [])
-  spelt-extra : {low ignored : ℕ} {xs : List ℕ} → 0 < length xs → low < 16 → ignored < 4 →
-      Spells (low + 16 * little xs) ((64 * length xs + (16 * ignored + low)) ∷ xs)
-
--- a package of some contents: its length counts its own bytes
-pub data Package : List ℕ → List ℕ → Type 0 where
-  d-package : {n : ℕ} {h c : List ℕ} → Spells n h → n ≡ length h + length c → Package c (h ++ c)
 
 mutual
   pub data DStmt : ℕ → Stmt → List ℕ → Type 0 where

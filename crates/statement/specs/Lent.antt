@@ -17,8 +17,8 @@ use Rattle.statement.specs.declared.exec.Out.{Out}
 use Rattle.statement.specs.declared.exec.Out.the-variants.{Finished, Returned, BreakOut, ContinueOut, Spent, Unset}
 use Rattle.statement.specs.declared.exec.Done.{Done}
 use Rattle.statement.specs.declared.exec.Moved.{Moved}
-use Rattle.statement.specs.Reading.{Target, Term, Stmt, Stmts}
-use Rattle.statement.specs.Refusal.{Read, read, Operand, operand, Operands, oneOf, twoOf, Head, whileOf, readList}
+use Rattle.statement.specs.Tree.{Target, Term, Stmt, Stmts}
+use Rattle.statement.specs.Reader.{Read, read, Operand, operand, Operands, oneOf, twoOf, Head, whileOf, readList}
 use Rattle.statement.specs.Meaning.{width, binary, Ev, got, lacks, onValue, put, eval, Ended, finished, returned, breakOut, continueOut, Ran, ended, spend, goOf, Turn, turned, oneTurn, turns, doStmt, doStmts}
 
 -- something was read

@@ -1,7 +1,7 @@
 pub mod Opcode
-pub mod Reading
+pub mod Tree
 pub mod Grammar
-pub mod Refusal
+pub mod Reader
 pub mod Said
 pub mod Promise
 pub mod Frames

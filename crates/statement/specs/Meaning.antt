@@ -13,7 +13,7 @@ use Rattle.statement.specs.declared.opcode.OneOp.{OneOp}
 use Rattle.statement.specs.declared.opcode.OneOp.the-variants.{Store, LNot}
 use Rattle.statement.specs.declared.opcode.TwoOp.{TwoOp}
 use Rattle.statement.specs.declared.opcode.TwoOp.the-variants.{Add, And, LAnd, LOr, LEqual, LGreater, LLess}
-use Rattle.statement.specs.Reading.{Target, nowhere, to, Term, const, ones, cell, step, one, two, Stmt, plain, return, ifElse, while, expr, Stmts, nil, cons}
+use Rattle.statement.specs.Tree.{Target, nowhere, to, Term, const, ones, cell, step, one, two, Stmt, plain, return, ifElse, while, expr, Stmts, nil, cons}
 use Rattle.statement.specs.Frames.{held, wrote}
 
 -- ## Numbers

@@ -10,9 +10,9 @@ use Rattle.statement.specs.declared.End.{End}
 use Rattle.statement.specs.declared.End.the-variants.{Finished, Returned, BreakOut, ContinueOut}
 use Rattle.statement.specs.declared.RunAnswer.{RunAnswer}
 use Rattle.statement.specs.declared.frame.Frame.{Frame}
-use Rattle.statement.specs.Reading.{Stmts}
+use Rattle.statement.specs.Tree.{Stmts}
 use Rattle.statement.specs.Grammar.{depthLimit, DStmts}
-use Rattle.statement.specs.Refusal.{readBlock}
+use Rattle.statement.specs.Reader.{readBlock}
 use Rattle.statement.specs.Meaning.{width, Ended, finished, returned, breakOut, continueOut, Outcome, mean}
 
 -- the grammar derives the block, as this tree, within the limits

@@ -8,7 +8,7 @@ use Rattle.pkg_length.specs.Refusal.{Answer, gives, refuses, andThen, refused}
 use Rattle.pkg_length.specs.Pkg.{Raw}
 use Rattle.statement.specs.declared.term.Reach.{Reach}
 use Rattle.statement.specs.declared.read.Package.{Package}
-use Rattle.statement.specs.Refusal.{Read, read}
+use Rattle.statement.specs.Reader.{Read, read}
 
 -- what reading says, in the code's names: that it goes on, or one of the refusals; what has no name here is too deep
 abbrev pub «NEXT» : ℕ

@@ -11,7 +11,7 @@ ghost use Prim.Native.Nat.{suc, _≤_, _<_};
 ghost use lib.ListN.{length, drop};
 ghost use Rattle.pkg_length.specs.Refusal.{blockLimit, gives};
 ghost use Rattle.statement.specs.Grammar.{depthLimit};
-ghost use Rattle.statement.specs.Refusal.{readTerm, readPackage, readHead, readElse, readIf, readStmt, readList};
+ghost use Rattle.statement.specs.Reader.{readTerm, readPackage, readHead, readElse, readIf, readStmt, readList};
 ghost use Rattle.statement.specs.Said.{upTo};
 ghost use Rattle.statement.specs.Lent.{Accepts, spanned, framed, ranIn, stepIn, turnIn, ranOf, stepOf, stepDo, whileDo, TurnsOk, turnOf, turnsBy, movedTo, plainTo, returnTo, dropTo};
 

@@ -13,7 +13,7 @@ ghost use mathlib.Core.Path.{_≡_};
 ghost use Prim.Native.Nat.{_+_, _≤_, _<_};
 ghost use lib.ListN.{length, drop};
 ghost use Rattle.pkg_length.specs.Refusal.{blockLimit};
-ghost use Rattle.statement.specs.Refusal.{readPackage, readHead, readElse, readIf, readExpr, readStmt, readList};
+ghost use Rattle.statement.specs.Reader.{readPackage, readHead, readElse, readIf, readExpr, readStmt, readList};
 ghost use Rattle.statement.specs.Said.{reached, packed, upTo};
 
 // A package's raw length, if reading goes on, and how many bytes spell it.

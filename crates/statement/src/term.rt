@@ -8,7 +8,7 @@ ghost use mathlib.Core.Path.{_≡_};
 ghost use Prim.Native.Nat.{_+_, _≤_};
 ghost use lib.ListN.{length, drop};
 ghost use Rattle.pkg_length.specs.Refusal.{blockLimit};
-ghost use Rattle.statement.specs.Refusal.{readBytes, readCell, readDest, readOne, readTwo, readTerm};
+ghost use Rattle.statement.specs.Reader.{readBytes, readCell, readDest, readOne, readTwo, readTerm};
 ghost use Rattle.statement.specs.Said.{refusalOf, reached, upTo};
 
 // What is said, and a place: NEXT, and where reading goes on; or a refusal, and its place. Two numbers, since an enum here makes the check twice as slow.

@@ -4,26 +4,26 @@ use Rattle.pkg_length.specs.declared.AmlError.{AmlError}
 use Rattle.statement.specs.declared.CheckAnswer.{CheckAnswer}
 use Rattle.statement.specs.Promise.{checkSaid}
 use Rattle.statement.proofs.Reaches.{goes-on, stands}
-use Rattle.statement.proofs.Theorems.{check-accepts-exactly, too-long, all-read, not-read}
+use Rattle.statement.proofs.Theorems.{checked-from, too-long, all-read, not-read}
 use borrow.Author.Needs.{needs}
 use Rattle.statement.proofs.check.Statement.{statement}
 use Rattle.statement.proofs.check.Tie as tie
 
 returns : tie.Need-returns
 returns c =
-    let s = c .before .before .args .block .now in check-accepts-exactly s _ (too-long s (c .if1 .taken))
+    let s = c .before .before .args .block .now in checked-from s _ (too-long s (c .if1 .taken))
 
 returns-2 : tie.Need-returns-2
 returns-2 c =
     let s = c .before .before .before .before .before .args .block .now in
     let r = c .before .before .term-list in
-    check-accepts-exactly s _ (all-read s (c .before .before .before .if1 .left) _ (sym (goes-on (r .result) (c .if2 .taken)) ∙ r .ensures))
+    checked-from s _ (all-read s (c .before .before .before .if1 .left) _ (sym (goes-on (r .result) (c .if2 .taken)) ∙ r .ensures))
 
 returns-3 : tie.Need-returns-3
 returns-3 c =
     let s = c .before .before .before .before .before .before .args .block .now in
     let r = c .before .before .before .term-list in
-    check-accepts-exactly s _
+    checked-from s _
     (ap (λ (e : AmlError). checkSaid (CheckAnswer.Refused e)) (c .refusal .ensures)
     ∙ not-read s (c .before .before .before .before .if1 .left) _ _ (sym (stands (r .result) (c .before .if2 .left)) ∙ r .ensures))
 

@@ -1,10 +1,10 @@
 -- The check's refusal, or the meaning of what it read.
 use mathlib.Core.Path.{ap}
 use Rattle.statement.specs.Grammar.{depthLimit}
-use Rattle.statement.specs.Refusal.{readList}
+use Rattle.statement.specs.Reader.{readList}
 use Rattle.statement.specs.Meaning.{Ran}
 use Rattle.statement.proofs.Runs.{ran-left}
-use Rattle.statement.proofs.Theorems.{run-ready, run-refuses, run-is-meaning}
+use Rattle.statement.proofs.Theorems.{run-ready, run-from-refusal, run-from-meaning}
 use borrow.Author.Needs.{needs}
 use native.Mathlib.Omega.{arith}
 use Rattle.statement.proofs.run.Statement.{statement}
@@ -26,7 +26,7 @@ sub-t18 c =
 returns : tie.Need-returns
 returns c =
     let a = c .before .before .before .before .before .args in
-    run-refuses (a .block .now) (a .frame) (a .budget) (c .before .before .before .check .result) _ (c .before .before .before .check .ensures) (c .before .v .given .1)
+    run-from-refusal (a .block .now) (a .frame) (a .budget) (c .before .before .before .check .result) _ (c .before .before .before .check .ensures) (c .before .v .given .1)
 
 returns-2 : tie.Need-returns-2
 returns-2 c =
@@ -34,7 +34,7 @@ returns-2 c =
     let c-enum-told = c .before .before .before .before .before .before .before .enum-told in
     let c-ended = c .before .ended in
     let a = c .before .before .before .before .before .before .before .before .before .before .before .args in
-    run-is-meaning (a .block .now) (a .frame) (a .budget) (c-check .result) _ (c-ended .result) (c-check .ensures) (c-enum-told .given .1)
+    run-from-meaning (a .block .now) (a .frame) (a .budget) (c-check .result) _ (c-ended .result) (c-check .ensures) (c-enum-told .given .1)
     (c .before .before .term-list .ensures) (c-ended .ensures)
 
 pub run-spec : {M : Type 1} → statement M

@@ -2,7 +2,7 @@
 use mathlib.Core.Path.{refl, sym, _∙_}
 use Prim.Native.Nat.{ℕ, _<_, _+_, _-_, _*_}
 use lib.ListN.{getD}
-use Rattle.statement.specs.Refusal.{readTerm}
+use Rattle.statement.specs.Reader.{readTerm}
 use Rattle.statement.specs.Lent.{framed}
 use Rattle.statement.proofs.Tables.{is-cell, op-cell, op-bytes}
 use Rattle.statement.proofs.Evals as evals
@@ -74,8 +74,7 @@ abbrev term-arg-at : ℕ → In 3 term-arg-kinds.ps
 term-arg-at t = and 3 term-arg-kinds.ps (is 3 term-arg-kinds.ps μ-term-arg t) term-arg.Pre
 
 abbrev term-arg-below : ℕ → In 3 term-arg-kinds.ps
-term-arg-below t =
-    and 3 term-arg-kinds.ps (falls 3 term-arg-kinds.ps _<_ μ-term-arg t) term-arg.Pre
+term-arg-below t = and 3 term-arg-kinds.ps (falls 3 term-arg-kinds.ps _<_ μ-term-arg t) term-arg.Pre
 
 abbrev two-at : ℕ → In 3 two-kinds.ps
 two-at t = and 3 two-kinds.ps (is 3 two-kinds.ps μ-two t) two.Pre
@@ -106,9 +105,6 @@ eval-shared-slice-read-b t c =
     let g = framed (a .set .now) (a .val .now) in
     omega (arith, evals.in-part (a .left) (a .at) s acc)
 
-eval-is-cell-requires : (t : ℕ) → eval-lts.Need-is-cell-requires (eval-claims t) (eval-at t) eval.Post
-eval-is-cell-requires t c κs = search needs
-
 eval-sub-wide : (t : ℕ) → eval-lts.Need-sub-wide (eval-claims t) (eval-at t) eval.Post
 eval-sub-wide t c =
     let a = c .before .before .before .before .before .before .args in
@@ -117,9 +113,6 @@ eval-sub-wide t c =
     let g = framed (a .set .now) (a .val .now) in
     let cb = is-cell (getD s (a .at) 0) (sym (c .before .before .before .is-cell .ensures) ∙ c .before .before .if1 .taken) in
     omega (arith, cb)
-
-eval-wide-requires : (t : ℕ) → eval-lts.Need-wide-requires (eval-claims t) (eval-at t) eval.Post
-eval-wide-requires t c κs = search needs
 
 eval-add-load-cell : (t : ℕ) → eval-lts.Need-add-load-cell (eval-claims t) (eval-at t) eval.Post
 eval-add-load-cell t c =
@@ -165,15 +158,6 @@ one-eval-requires t c κs =
     let g = framed (a .set .now) (a .val .now) in
     (omega (arith, c .before .before .before .pre .0), (c .before .before .before .pre .1 .0, evals.one-term-acc (a .left) (a .at) s (a .d) acc))
 
-one-enum-known-a : (t : ℕ) → one-lts.Need-enum-known-a (one-claims t) (one-at t) one.Post
-one-enum-known-a t c = search needs
-
-one-enum-known-a-2 : (t : ℕ) → one-lts.Need-enum-known-a-2 (one-claims t) (one-at t) one.Post
-one-enum-known-a-2 t c = search needs
-
-one-unary-requires : (t : ℕ) → one-lts.Need-unary-requires (one-claims t) (one-at t) one.Post
-one-unary-requires t c κs = search needs
-
 one-store-requires : (t : ℕ) → one-lts.Need-store-requires (one-claims t) (one-at t) one.Post
 one-store-requires t c κs =
     let a = c .before .before .before .before .before .before .before .before .before .before .args in
@@ -208,15 +192,6 @@ second-eval-requires t c κs =
     let acc = c .before .before .before .pre .1 .1 in
     let g = framed (a .set .now) (a .val .now) in
     (omega (arith, c .before .before .before .pre .0), (c .before .before .before .pre .1 .0, evals.one-term-acc (a .left) (a .at) s (a .d) acc))
-
-second-enum-known-b : (t : ℕ) → second-lts.Need-enum-known-b (second-claims t) (second-at t) second.Post
-second-enum-known-b t c = search needs
-
-second-enum-known-b-2 : (t : ℕ) → second-lts.Need-enum-known-b-2 (second-claims t) (second-at t) second.Post
-second-enum-known-b-2 t c = search needs
-
-second-binary-requires : (t : ℕ) → second-lts.Need-binary-requires (second-claims t) (second-at t) second.Post
-second-binary-requires t c κs = search needs
 
 second-store-requires : (t : ℕ) → second-lts.Need-store-requires (second-claims t) (second-at t) second.Post
 second-store-requires t c κs =
@@ -257,12 +232,6 @@ term-arg-shared-slice-read-term-op t c =
     let g = framed (a .set .now) (a .val .now) in
     omega (arith, evals.in-part (a .left) (a .at) s acc)
 
-term-arg-term-op-requires : (t : ℕ) → term-arg-lts.Need-term-op-requires (term-arg-claims t) (term-arg-at t) term-arg.Post
-term-arg-term-op-requires t c κs = search needs
-
-term-arg-enum-known-op : (t : ℕ) → term-arg-lts.Need-enum-known-op (term-arg-claims t) (term-arg-at t) term-arg.Post
-term-arg-enum-known-op t c = search needs
-
 term-arg-add-t18 : (t : ℕ) → term-arg-lts.Need-add-t18 (term-arg-claims t) (term-arg-at t) term-arg.Post
 term-arg-add-t18 t c =
     let a = c .before .before .before .before .before .before .args in
@@ -271,9 +240,6 @@ term-arg-add-t18 t c =
     let g = framed (a .set .now) (a .val .now) in
     omega (arith, evals.in-part (a .left) (a .at) s acc, c .before .before .before .before .before .before .pre .1 .0)
 
-term-arg-enum-told : (t : ℕ) → term-arg-lts.Need-enum-told (term-arg-claims t) (term-arg-at t) term-arg.Post
-term-arg-enum-told t c = search needs
-
 term-arg-add-t19 : (t : ℕ) → term-arg-lts.Need-add-t19 (term-arg-claims t) (term-arg-at t) term-arg.Post
 term-arg-add-t19 t c =
     let a = c .before .before .before .before .before .args in
@@ -281,9 +247,6 @@ term-arg-add-t19 t c =
     let acc = c .before .before .before .before .before .pre .1 .1 in
     let g = framed (a .set .now) (a .val .now) in
     omega (arith, evals.in-part (a .left) (a .at) s acc, c .before .before .before .before .before .pre .1 .0)
-
-term-arg-enum-known-op-2 : (t : ℕ) → term-arg-lts.Need-enum-known-op-2 (term-arg-claims t) (term-arg-at t) term-arg.Post
-term-arg-enum-known-op-2 t c = search needs
 
 term-arg-add-little-endian : (t : ℕ) → term-arg-lts.Need-add-little-endian (term-arg-claims t) (term-arg-at t) term-arg.Post
 term-arg-add-little-endian t c =
@@ -321,9 +284,6 @@ term-arg-add-t23 t c =
     let fit = evals.bytes-in (readTerm (a .left - 1)) (a .at) (c .before .before .op2 .given .0 .0) s ac (evals.in-part (a .left) (a .at) s acc) in
     omega (arith, fit, c .before .before .before .before .before .before .before .pre .1 .0)
 
-term-arg-enum-known-op-3 : (t : ℕ) → term-arg-lts.Need-enum-known-op-3 (term-arg-claims t) (term-arg-at t) term-arg.Post
-term-arg-enum-known-op-3 t c = search needs
-
 term-arg-add-load-cell : (t : ℕ) → term-arg-lts.Need-add-load-cell (term-arg-claims t) (term-arg-at t) term-arg.Post
 term-arg-add-load-cell t c =
     let a = c .before .before .before .before .before .before .before .before .args in
@@ -339,9 +299,6 @@ term-arg-load-cell-requires t c κs =
     let acc = c .before .before .before .before .before .before .before .before .pre .1 .1 in
     let g = framed (a .set .now) (a .val .now) in
     op-cell (getD s (a .at) 0) _ (sym (c .before .before .before .before .before .term-op .ensures) ∙ c .before .before .before .op3 .given .1) .2
-
-term-arg-enum-known-op-4 : (t : ℕ) → term-arg-lts.Need-enum-known-op-4 (term-arg-claims t) (term-arg-at t) term-arg.Post
-term-arg-enum-known-op-4 t c = search needs
 
 term-arg-add-wide : (t : ℕ) → term-arg-lts.Need-add-wide (term-arg-claims t) (term-arg-at t) term-arg.Post
 term-arg-add-wide t c =
@@ -381,9 +338,6 @@ term-arg-sub-wide t c =
     let cb = is-cell (getD s (a .at + 1) 0) (evals.cell-byte 1 (a .at + 1) s sa) in
     omega (arith, cb)
 
-term-arg-wide-requires : (t : ℕ) → term-arg-lts.Need-wide-requires (term-arg-claims t) (term-arg-at t) term-arg.Post
-term-arg-wide-requires t c κs = search needs
-
 term-arg-add-step-cell : (t : ℕ) → term-arg-lts.Need-add-step-cell (term-arg-claims t) (term-arg-at t) term-arg.Post
 term-arg-add-step-cell t c =
     let c-pre = c .before .before .before .before .before .before .before .before .before .before .pre in
@@ -414,9 +368,6 @@ term-arg-step-cell-requires t c κs =
     let cb = is-cell (getD s (a .at + 1) 0) (evals.cell-byte 1 (a .at + 1) s sa) in
     omega (arith, cb, c .wide .ensures)
 
-term-arg-enum-known-op-5 : (t : ℕ) → term-arg-lts.Need-enum-known-op-5 (term-arg-claims t) (term-arg-at t) term-arg.Post
-term-arg-enum-known-op-5 t c = search needs
-
 term-arg-add-one : (t : ℕ) → term-arg-lts.Need-add-one (term-arg-claims t) (term-arg-at t) term-arg.Post
 term-arg-add-one t c =
     let a = c .before .before .before .before .before .before .args in
@@ -446,9 +397,6 @@ term-arg-one-requires t c κs =
     let some = evals.left-some (a .left) (a .at) s acc in
     (omega (arith, some, c-pre .0), (c-pre .1 .0, evals.operand-acc (a .left - 1) (a .at) s (c-op5 .given .0 .1 .0) (c-op5 .given .0 .0) ac))
 
-term-arg-enum-known-op-6 : (t : ℕ) → term-arg-lts.Need-enum-known-op-6 (term-arg-claims t) (term-arg-at t) term-arg.Post
-term-arg-enum-known-op-6 t c = search needs
-
 term-arg-add-two : (t : ℕ) → term-arg-lts.Need-add-two (term-arg-claims t) (term-arg-at t) term-arg.Post
 term-arg-add-two t c =
     let a = c .before .before .before .before .before .before .args in
@@ -477,9 +425,6 @@ term-arg-two-requires t c κs =
     let ac = evals.acc-by (a .left) (a .at) s acc (c-term-op .result) _ (c-term-op .ensures) (c-op6 .given .1) in
     let some = evals.left-some (a .left) (a .at) s acc in
     (omega (arith, some, c-pre .0), (c-pre .1 .0, evals.operands-acc (a .left - 1) (a .at) s (c-op6 .given .0 .1 .0) (c-op6 .given .0 .0) ac))
-
-term-arg-enum-told-2 : (t : ℕ) → term-arg-lts.Need-enum-told-2 (term-arg-claims t) (term-arg-at t) term-arg.Post
-term-arg-enum-told-2 t c = search needs
 
 term-arg-returns : (t : ℕ) → term-arg-lts.Need-returns (term-arg-claims t) (term-arg-at t) term-arg.Post
 term-arg-returns t c =
@@ -578,12 +523,6 @@ two-eval-requires t c κs =
     let g = framed (a .set .now) (a .val .now) in
     (omega (arith, c .before .before .before .pre .0), (c .before .before .before .pre .1 .0, evals.two-term-acc (a .left) (a .at) s (a .d) acc))
 
-two-enum-known-a : (t : ℕ) → two-lts.Need-enum-known-a (two-claims t) (two-at t) two.Post
-two-enum-known-a t c = search needs
-
-two-enum-known-a-2 : (t : ℕ) → two-lts.Need-enum-known-a-2 (two-claims t) (two-at t) two.Post
-two-enum-known-a-2 t c = search needs
-
 two-second-requires : (t : ℕ) → two-lts.Need-second-requires (two-claims t) (two-at t) two.Post
 two-second-requires t c κs =
     let c-pre = c .before .before .before .before .before .before .before .before .before .pre in
@@ -614,78 +553,19 @@ two-returns-2 t c =
 
 pub +eval+one+second+term-arg+two-spec : {M : Type 1} → statement M
 +eval+one+second+term-arg+two-spec =
-    close μ-eval μ-one μ-second μ-term-arg μ-two (λ t. eval-lts.spec (eval-claims t) (eval-at t) eval.Post
-    (eval-shared-slice-read-b t)
-    (eval-is-cell-requires t)
-    (eval-sub-wide t)
-    (eval-wide-requires t)
-    (eval-add-load-cell t)
-    (eval-load-cell-requires t)
-    (eval-term-arg-requires t)
-    (eval-returns t)
-    (eval-returns-2 t))
-    (λ t. one-lts.spec (one-claims t) (one-at t) one.Post
-    (one-eval-requires t)
-    (one-enum-known-a t)
-    (one-enum-known-a-2 t)
-    (one-unary-requires t)
-    (one-store-requires t)
-    (one-returns t)
-    (one-returns-2 t))
-    (λ t. second-lts.spec (second-claims t) (second-at t) second.Post
-    (second-eval-requires t)
-    (second-enum-known-b t)
-    (second-enum-known-b-2 t)
-    (second-binary-requires t)
-    (second-store-requires t)
-    (second-returns t)
-    (second-returns-2 t))
-    (λ t. term-arg-lts.spec (term-arg-claims t) (term-arg-at t) term-arg.Post
-    (term-arg-shared-slice-read-term-op t)
-    (term-arg-term-op-requires t)
-    (term-arg-enum-known-op t)
-    (term-arg-add-t18 t)
-    (term-arg-enum-told t)
-    (term-arg-add-t19 t)
-    (term-arg-enum-known-op-2 t)
-    (term-arg-add-little-endian t)
-    (term-arg-little-endian-requires t)
-    (term-arg-add-t22 t)
-    (term-arg-add-t23 t)
-    (term-arg-enum-known-op-3 t)
-    (term-arg-add-load-cell t)
-    (term-arg-load-cell-requires t)
-    (term-arg-enum-known-op-4 t)
-    (term-arg-add-wide t)
-    (term-arg-shared-slice-read-wide t)
-    (term-arg-sub-wide t)
-    (term-arg-wide-requires t)
-    (term-arg-add-step-cell t)
-    (term-arg-step-cell-requires t)
-    (term-arg-enum-known-op-5 t)
-    (term-arg-add-one t)
-    (term-arg-sub-one t)
-    (term-arg-one-requires t)
-    (term-arg-enum-known-op-6 t)
-    (term-arg-add-two t)
-    (term-arg-sub-two t)
-    (term-arg-two-requires t)
-    (term-arg-enum-told-2 t)
-    (term-arg-returns t)
-    (term-arg-returns-2 t)
-    (term-arg-returns-3 t)
-    (term-arg-returns-4 t)
-    (term-arg-returns-5 t)
-    (term-arg-returns-6 t)
-    (term-arg-returns-7 t)
-    (term-arg-returns-8 t))
-    λ t. two-lts.spec
-    (eval-below t, eval.Post, second-below t, second.Post)
-    (two-at t)
-    two.Post
-    (two-eval-requires t)
-    (two-enum-known-a t)
-    (two-enum-known-a-2 t)
-    (two-second-requires t)
-    (two-returns t)
-    (two-returns-2 t)
+    close μ-eval μ-one μ-second μ-term-arg μ-two
+    (λ t. eval-lts.spec (eval-claims t) (eval-at t) eval.Post (eval-shared-slice-read-b t) (λ c κs. search needs) (eval-sub-wide t) (λ c κs. search needs)
+    (eval-add-load-cell t) (eval-load-cell-requires t) (eval-term-arg-requires t) (eval-returns t) (eval-returns-2 t))
+    (λ t. one-lts.spec (one-claims t) (one-at t) one.Post (one-eval-requires t) (λ c. search needs) (λ c. search needs) (λ c κs. search needs)
+    (one-store-requires t) (one-returns t) (one-returns-2 t))
+    (λ t. second-lts.spec (second-claims t) (second-at t) second.Post (second-eval-requires t) (λ c. search needs) (λ c. search needs) (λ c κs. search needs)
+    (second-store-requires t) (second-returns t) (second-returns-2 t))
+    (λ t. term-arg-lts.spec (term-arg-claims t) (term-arg-at t) term-arg.Post (term-arg-shared-slice-read-term-op t) (λ c κs. search needs) (λ c. search needs)
+    (term-arg-add-t18 t) (λ c. search needs) (term-arg-add-t19 t) (λ c. search needs) (term-arg-add-little-endian t) (term-arg-little-endian-requires t)
+    (term-arg-add-t22 t) (term-arg-add-t23 t) (λ c. search needs) (term-arg-add-load-cell t) (term-arg-load-cell-requires t) (λ c. search needs)
+    (term-arg-add-wide t) (term-arg-shared-slice-read-wide t) (term-arg-sub-wide t) (λ c κs. search needs) (term-arg-add-step-cell t)
+    (term-arg-step-cell-requires t) (λ c. search needs) (term-arg-add-one t) (term-arg-sub-one t) (term-arg-one-requires t) (λ c. search needs)
+    (term-arg-add-two t) (term-arg-sub-two t) (term-arg-two-requires t) (λ c. search needs) (term-arg-returns t) (term-arg-returns-2 t) (term-arg-returns-3 t)
+    (term-arg-returns-4 t) (term-arg-returns-5 t) (term-arg-returns-6 t) (term-arg-returns-7 t) (term-arg-returns-8 t))
+    (λ t. two-lts.spec (eval-below t, eval.Post, second-below t, second.Post) (two-at t) two.Post (two-eval-requires t) (λ c. search needs) (λ c. search needs)
+    (two-second-requires t) (two-returns t) (two-returns-2 t))

@@ -3,7 +3,7 @@ use mathlib.Core.Path.{subst}
 use mathlib.Core.List.{[]}
 use lib.ListN.{drop, getD}
 use Rattle.statement.specs.declared.opcode.Dest.{Dest}
-use Rattle.statement.specs.Refusal.{readDest}
+use Rattle.statement.specs.Reader.{readDest}
 use Rattle.statement.specs.Lent.{Accepts, framed}
 use Rattle.statement.proofs.Tables.{is-cell}
 use Rattle.statement.proofs.Evals.{cell-inside, cell-byte, dest-cell-acc, target-inside, target-acc, store-none, store-null, store-cell, store-target}

@@ -5,7 +5,7 @@ use lib.ListN.{length, drop, length-take, length-drop}
 use Rattle.pkg_length.specs.Refusal.{gives}
 use Rattle.statement.specs.declared.exec.Out.{Out}
 use Rattle.statement.specs.Grammar.{depthLimit}
-use Rattle.statement.specs.Refusal.{readTerm, readList}
+use Rattle.statement.specs.Reader.{readTerm, readList}
 use Rattle.statement.specs.Meaning.{finished, ended, goOf}
 use Rattle.statement.specs.Lent.{Accepts, spanned, framed, outSaid, wayOf, stepAt, stepF, ranOf, turnsBy}
 use Rattle.statement.proofs.Reaches.{package-in}
@@ -76,46 +76,31 @@ abbrev def-else-at : ℕ → In 3 def-else-kinds.ps
 def-else-at t = and 3 def-else-kinds.ps (is 3 def-else-kinds.ps μ-def-else t) def-else.Pre
 
 abbrev def-else-below : ℕ → In 3 def-else-kinds.ps
-def-else-below t =
-    and 3 def-else-kinds.ps (falls 3 def-else-kinds.ps _<_ μ-def-else t) def-else.Pre
+def-else-below t = and 3 def-else-kinds.ps (falls 3 def-else-kinds.ps _<_ μ-def-else t) def-else.Pre
 
 abbrev def-if-else-at : ℕ → In 3 def-if-else-kinds.ps
-def-if-else-at t =
-    and 3 def-if-else-kinds.ps (is 3 def-if-else-kinds.ps μ-def-if-else t) def-if-else.Pre
+def-if-else-at t = and 3 def-if-else-kinds.ps (is 3 def-if-else-kinds.ps μ-def-if-else t) def-if-else.Pre
 
 abbrev def-if-else-below : ℕ → In 3 def-if-else-kinds.ps
-def-if-else-below t =
-    and 3 def-if-else-kinds.ps (falls 3 def-if-else-kinds.ps _<_ μ-def-if-else t) def-if-else.Pre
+def-if-else-below t = and 3 def-if-else-kinds.ps (falls 3 def-if-else-kinds.ps _<_ μ-def-if-else t) def-if-else.Pre
 
 abbrev def-while-at : ℕ → In 3 def-while-kinds.ps
 def-while-at t = and 3 def-while-kinds.ps (is 3 def-while-kinds.ps μ-def-while t) def-while.Pre
 
 abbrev def-while-below : ℕ → In 3 def-while-kinds.ps
-def-while-below t =
-    and 3 def-while-kinds.ps (falls 3 def-while-kinds.ps _<_ μ-def-while t) def-while.Pre
+def-while-below t = and 3 def-while-kinds.ps (falls 3 def-while-kinds.ps _<_ μ-def-while t) def-while.Pre
 
 abbrev statement-opcode-at : ℕ → In 3 statement-opcode-kinds.ps
-statement-opcode-at t =
-    and
-    3
-    statement-opcode-kinds.ps
-    (is 3 statement-opcode-kinds.ps μ-statement-opcode t)
-    statement-opcode.Pre
+statement-opcode-at t = and 3 statement-opcode-kinds.ps (is 3 statement-opcode-kinds.ps μ-statement-opcode t) statement-opcode.Pre
 
 abbrev statement-opcode-below : ℕ → In 3 statement-opcode-kinds.ps
-statement-opcode-below t =
-    and
-    3
-    statement-opcode-kinds.ps
-    (falls 3 statement-opcode-kinds.ps _<_ μ-statement-opcode t)
-    statement-opcode.Pre
+statement-opcode-below t = and 3 statement-opcode-kinds.ps (falls 3 statement-opcode-kinds.ps _<_ μ-statement-opcode t) statement-opcode.Pre
 
 abbrev term-list-at : ℕ → In 3 term-list-kinds.ps
 term-list-at t = and 3 term-list-kinds.ps (is 3 term-list-kinds.ps μ-term-list t) term-list.Pre
 
 abbrev term-list-below : ℕ → In 3 term-list-kinds.ps
-term-list-below t =
-    and 3 term-list-kinds.ps (falls 3 term-list-kinds.ps _<_ μ-term-list t) term-list.Pre
+term-list-below t = and 3 term-list-kinds.ps (falls 3 term-list-kinds.ps _<_ μ-term-list t) term-list.Pre
 
 abbrev turn-at : ℕ → In 3 turn-kinds.ps
 turn-at t = and 3 turn-kinds.ps (is 3 turn-kinds.ps μ-turn t) turn.Pre
@@ -154,18 +139,12 @@ def-else-returns t c =
     let g = framed (a .set .now) (a .val .now) in
     runs.else-none (a .left) (a .at) s g (a .units) (c .if1 .taken)
 
-def-else-shared-slice-read-if2 : (t : ℕ) → def-else-lts.Need-shared-slice-read-if2 (def-else-claims t) (def-else-at t) def-else.Post
-def-else-shared-slice-read-if2 t c = search needs
-
 def-else-returns-2 : (t : ℕ) → def-else-lts.Need-returns-2 (def-else-claims t) (def-else-at t) def-else.Post
 def-else-returns-2 t c =
     let a = c .before .before .before .before .args in
     let s = a .part .now in
     let g = framed (a .set .now) (a .val .now) in
     runs.else-other (a .left) (a .at) s g (a .units) (c .before .before .if1 .left) (c .if2 .taken)
-
-def-else-add-pkg : (t : ℕ) → def-else-lts.Need-add-pkg (def-else-claims t) (def-else-at t) def-else.Post
-def-else-add-pkg t c = search needs
 
 def-else-pkg-requires : (t : ℕ) → def-else-lts.Need-pkg-requires (def-else-claims t) (def-else-at t) def-else.Post
 def-else-pkg-requires t c κs =
@@ -174,9 +153,6 @@ def-else-pkg-requires t c κs =
     let g = framed (a .set .now) (a .val .now) in
     let acc = c .before .before .before .before .pre .1 .2 in
     (omega (arith, c .before .before .if1 .left), c .before .before .before .before .pre .1 .1, runs.else-package (a .left) (a .at) s (c .before .before .if1 .left) (c .if2 .left) acc)
-
-def-else-add-body : (t : ℕ) → def-else-lts.Need-add-body (def-else-claims t) (def-else-at t) def-else.Post
-def-else-add-body t c = search needs
 
 def-else-add-body-2 : (t : ℕ) → def-else-lts.Need-add-body-2 (def-else-claims t) (def-else-at t) def-else.Post
 def-else-add-body-2 t c =
@@ -188,9 +164,6 @@ def-else-add-body-2 t c =
     let ew = c .before .pkg .ensures in
     let pk = package-in 0 (a .at + 1) s (w .raw) (w .used) ew (omega (arith, c .before .before .before .before .if1 .left)) in
     omega (arith, pk, c .before .before .before .before .before .before .pre .1 .1)
-
-def-else-add-end : (t : ℕ) → def-else-lts.Need-add-end (def-else-claims t) (def-else-at t) def-else.Post
-def-else-add-end t c = search needs
 
 def-else-add-end-2 : (t : ℕ) → def-else-lts.Need-add-end-2 (def-else-claims t) (def-else-at t) def-else.Post
 def-else-add-end-2 t c =
@@ -308,12 +281,6 @@ def-if-else-eval-requires t c κs =
     let pk = package-in 0 (a .at) s (w .raw) (w .used) ew (c .before .before .before .before .before .before .pre .1 .0) in
     (c .before .before .before .before .before .before .pre .1 .1, runs.head-term-acc (a .left) (a .at) s (runs.if-head (a .left) (a .at) s acc) w ew)
 
-def-if-else-enum-known-v : (t : ℕ) → def-if-else-lts.Need-enum-known-v (def-if-else-claims t) (def-if-else-at t) def-if-else.Post
-def-if-else-enum-known-v t c = search needs
-
-def-if-else-enum-known-v-2 : (t : ℕ) → def-if-else-lts.Need-enum-known-v-2 (def-if-else-claims t) (def-if-else-at t) def-if-else.Post
-def-if-else-enum-known-v-2 t c = search needs
-
 def-if-else-else-end-requires : (t : ℕ) → def-if-else-lts.Need-else-end-requires (def-if-else-claims t) (def-if-else-at t) def-if-else.Post
 def-if-else-else-end-requires t c κs =
     let a = c .before .before .before .before .before .before .before .before .before .before .args in
@@ -337,9 +304,6 @@ def-if-else-def-else-requires t c κs =
     let ew = c-pkg .ensures in
     let pk = package-in 0 (a .at) s (w .raw) (w .used) ew (c-pre .1 .0) in
     (omega (arith, c-pre .0), (omega (arith, pk), c-pre .1 .1, runs.if-else-acc (a .left) (a .at) s acc w ew))
-
-def-if-else-finish-requires : (t : ℕ) → def-if-else-lts.Need-finish-requires (def-if-else-claims t) (def-if-else-at t) def-if-else.Post
-def-if-else-finish-requires t c κs = search needs
 
 def-if-else-sub-term-list : (t : ℕ) → def-if-else-lts.Need-sub-term-list (def-if-else-claims t) (def-if-else-at t) def-if-else.Post
 def-if-else-sub-term-list t c =
@@ -396,9 +360,6 @@ def-if-else-term-list-requires t c κs =
     let z = c-v2 .given in
     let bd = runs.if-body (a .left) (a .at) s acc w ew g (a .units) _ (c-eval .ensures) (z .0 .0) (z .0 .1 .0) (z .1) in
     (omega (arith, c-pre .0), (omega (arith, pk, c-pre .1 .1, length-take (a .at + w .raw - z .0 .1 .0) (drop (z .0 .1 .0) s), length-drop (z .0 .1 .0) s), bd .1))
-
-def-if-else-finish-requires-2 : (t : ℕ) → def-if-else-lts.Need-finish-requires-2 (def-if-else-claims t) (def-if-else-at t) def-if-else.Post
-def-if-else-finish-requires-2 t c κs = search needs
 
 def-if-else-returns : (t : ℕ) → def-if-else-lts.Need-returns (def-if-else-claims t) (def-if-else-at t) def-if-else.Post
 def-if-else-returns t c =
@@ -492,9 +453,6 @@ def-while-turns-requires t c κs =
     let pk = package-in 0 (a .at) s (w .raw) (w .used) ew (c .before .before .before .before .before .before .pre .1 .0) in
     (omega (arith, c .before .before .before .before .before .before .pre .0), (omega (arith, pk), c .before .before .before .before .before .before .pre .1 .1, runs.turns-ok (a .left) (a .at) s acc w ew))
 
-def-while-finish-requires : (t : ℕ) → def-while-lts.Need-finish-requires (def-while-claims t) (def-while-at t) def-while.Post
-def-while-finish-requires t c κs = search needs
-
 def-while-returns : (t : ℕ) → def-while-lts.Need-returns (def-while-claims t) (def-while-at t) def-while.Post
 def-while-returns t c =
     let a = c .before .before .before .before .before .before .before .before .args in
@@ -515,30 +473,9 @@ statement-opcode-returns t c =
     let acc = c .before .before .pre .1 .2 in
     runs.no-unit (a .left) (a .at) s lt acc g (a .units) (c .if1 .taken)
 
-statement-opcode-sub-u : (t : ℕ) → statement-opcode-lts.Need-sub-u (statement-opcode-claims t) (statement-opcode-at t) statement-opcode.Post
-statement-opcode-sub-u t c = search needs
-
 statement-opcode-shared-slice-read-stmt-op :
     (t : ℕ) → statement-opcode-lts.Need-shared-slice-read-stmt-op (statement-opcode-claims t) (statement-opcode-at t) statement-opcode.Post
 statement-opcode-shared-slice-read-stmt-op t c = search needs
-
-statement-opcode-stmt-op-requires : (t : ℕ) → statement-opcode-lts.Need-stmt-op-requires (statement-opcode-claims t) (statement-opcode-at t) statement-opcode.Post
-statement-opcode-stmt-op-requires t c κs = search needs
-
-statement-opcode-enum-known-op : (t : ℕ) → statement-opcode-lts.Need-enum-known-op (statement-opcode-claims t) (statement-opcode-at t) statement-opcode.Post
-statement-opcode-enum-known-op t c = search needs
-
-statement-opcode-add-plain : (t : ℕ) → statement-opcode-lts.Need-add-plain (statement-opcode-claims t) (statement-opcode-at t) statement-opcode.Post
-statement-opcode-add-plain t c = search needs
-
-statement-opcode-plain-requires : (t : ℕ) → statement-opcode-lts.Need-plain-requires (statement-opcode-claims t) (statement-opcode-at t) statement-opcode.Post
-statement-opcode-plain-requires t c κs = search needs
-
-statement-opcode-enum-told : (t : ℕ) → statement-opcode-lts.Need-enum-told (statement-opcode-claims t) (statement-opcode-at t) statement-opcode.Post
-statement-opcode-enum-told t c = search needs
-
-statement-opcode-add-eval : (t : ℕ) → statement-opcode-lts.Need-add-eval (statement-opcode-claims t) (statement-opcode-at t) statement-opcode.Post
-statement-opcode-add-eval t c = search needs
 
 statement-opcode-eval-requires : (t : ℕ) → statement-opcode-lts.Need-eval-requires (statement-opcode-claims t) (statement-opcode-at t) statement-opcode.Post
 statement-opcode-eval-requires t c κs =
@@ -550,15 +487,6 @@ statement-opcode-eval-requires t c κs =
     let ac = runs.op-acc (a .left) (a .at) s lt acc (c .before .before .before .before .stmt-op .result) _ (c .before .before .before .before .stmt-op .ensures) (c .before .before .enum-told .given .1) in
     let d = drop (a .at + 1) s in
     (c .before .before .before .before .before .before .before .before .pre .1 .1, runs.ret-acc (a .at) d g (a .units) (stepAt 0 (ended g 0 (gives finished))) ac)
-
-statement-opcode-def-return-requires : (t : ℕ) → statement-opcode-lts.Need-def-return-requires (statement-opcode-claims t) (statement-opcode-at t) statement-opcode.Post
-statement-opcode-def-return-requires t c κs = search needs
-
-statement-opcode-enum-told-2 : (t : ℕ) → statement-opcode-lts.Need-enum-told-2 (statement-opcode-claims t) (statement-opcode-at t) statement-opcode.Post
-statement-opcode-enum-told-2 t c = search needs
-
-statement-opcode-add-def-if-else : (t : ℕ) → statement-opcode-lts.Need-add-def-if-else (statement-opcode-claims t) (statement-opcode-at t) statement-opcode.Post
-statement-opcode-add-def-if-else t c = search needs
 
 statement-opcode-sub-def-if-else : (t : ℕ) → statement-opcode-lts.Need-sub-def-if-else (statement-opcode-claims t) (statement-opcode-at t) statement-opcode.Post
 statement-opcode-sub-def-if-else t c =
@@ -583,12 +511,6 @@ statement-opcode-def-if-else-requires t c κs =
     let some = runs.stmt-left (a .left) (a .at) s lt acc in
     (omega (arith, some, c-pre .0), (omega (arith, lt), c-pre .1 .1, runs.if-acc (a .at) d g (a .units) (stepAt 0 (ended g 0 (gives finished))) (a .left - 1) ac))
 
-statement-opcode-enum-told-3 : (t : ℕ) → statement-opcode-lts.Need-enum-told-3 (statement-opcode-claims t) (statement-opcode-at t) statement-opcode.Post
-statement-opcode-enum-told-3 t c = search needs
-
-statement-opcode-add-def-while : (t : ℕ) → statement-opcode-lts.Need-add-def-while (statement-opcode-claims t) (statement-opcode-at t) statement-opcode.Post
-statement-opcode-add-def-while t c = search needs
-
 statement-opcode-sub-def-while : (t : ℕ) → statement-opcode-lts.Need-sub-def-while (statement-opcode-claims t) (statement-opcode-at t) statement-opcode.Post
 statement-opcode-sub-def-while t c =
     let a = c .before .before .before .before .before .before .args in
@@ -612,9 +534,6 @@ statement-opcode-def-while-requires t c κs =
     let some = runs.stmt-left (a .left) (a .at) s lt acc in
     (omega (arith, some, c-pre .0), (omega (arith, lt), c-pre .1 .1, runs.while-acc (a .at) d g (a .units) (stepAt 0 (ended g 0 (gives finished))) (a .left - 1) ac))
 
-statement-opcode-enum-told-4 : (t : ℕ) → statement-opcode-lts.Need-enum-told-4 (statement-opcode-claims t) (statement-opcode-at t) statement-opcode.Post
-statement-opcode-enum-told-4 t c = search needs
-
 statement-opcode-term-arg-requires : (t : ℕ) → statement-opcode-lts.Need-term-arg-requires (statement-opcode-claims t) (statement-opcode-at t) statement-opcode.Post
 statement-opcode-term-arg-requires t c κs =
     let a = c .before .before .before .before .before .before .before .before .args in
@@ -625,9 +544,6 @@ statement-opcode-term-arg-requires t c κs =
     let ac = runs.op-acc (a .left) (a .at) s lt acc (c .before .before .before .before .stmt-op .result) _ (c .before .before .before .before .stmt-op .ensures) (c .before .before .enum-told4 .given .1) in
     let d = drop (a .at + 1) s in
     (c .before .before .before .before .before .before .before .before .pre .1 .1, runs.expr-acc (a .at) s lt ac)
-
-statement-opcode-dropped-requires : (t : ℕ) → statement-opcode-lts.Need-dropped-requires (statement-opcode-claims t) (statement-opcode-at t) statement-opcode.Post
-statement-opcode-dropped-requires t c κs = search needs
 
 statement-opcode-returns-2 : (t : ℕ) → statement-opcode-lts.Need-returns-2 (statement-opcode-claims t) (statement-opcode-at t) statement-opcode.Post
 statement-opcode-returns-2 t c =
@@ -729,9 +645,6 @@ term-list-statement-opcode-requires t c κs =
     let lp = c .before .before .before .loop in
     (omega (arith, c-pre .0), (c-loop-test .taken, c-pre .1 .0, runs.list-stmt-acc (a .left) (lp .at) (a .part .now) (framed (lp .set) (lp .val)) (lp .u) (c-loop-test .taken) (lp .inv .1)))
 
-term-list-enum-told : (t : ℕ) → term-list-lts.Need-enum-told (term-list-claims t) (term-list-at t) term-list.Post term-list-Inv-loop term-list-μ-loop
-term-list-enum-told t c = search needs
-
 term-list-loop-less : (t : ℕ) → term-list-lts.Need-loop-less (term-list-claims t) (term-list-at t) term-list.Post term-list-Inv-loop term-list-μ-loop
 term-list-loop-less t c =
     let c-loop-test = c .before .before .before .before .before .loop-test in
@@ -752,9 +665,6 @@ term-list-loop-again t c =
     let m = runs.run-more (a .left) (lp .at) s (framed (lp .set) (lp .val)) (lp .u) (c-loop-test .taken) (lp .inv .1) _ (x .ensures) (x .result .next) (ap (λ (o : Out). wayOf (x .result .next) (outSaid o)) (c .enum-told .given .1)) in
     (m .1, m .2, lp .inv .2 ∙ m .3)
 
-term-list-enum-known-e : (t : ℕ) → term-list-lts.Need-enum-known-e (term-list-claims t) (term-list-at t) term-list.Post term-list-Inv-loop term-list-μ-loop
-term-list-enum-known-e t c = search needs
-
 term-list-returns : (t : ℕ) → term-list-lts.Need-returns (term-list-claims t) (term-list-at t) term-list.Post term-list-Inv-loop term-list-μ-loop
 term-list-returns t c =
     let c-loop-test = c .before .before .before .before .before .before .loop-test in
@@ -764,9 +674,6 @@ term-list-returns t c =
     let x = c .before .before .before .statement-opcode in
     runs.run-stop (a .left) (lp .at) s (framed (lp .set) (lp .val)) (lp .u) (c-loop-test .taken) (lp .inv .1) _ (x .ensures) _
     (ap (λ (o : Out). wayOf (x .result .next) (outSaid o)) (c .before .e .given .1)) ∙ sym (lp .inv .2)
-
-term-list-enum-told-2 : (t : ℕ) → term-list-lts.Need-enum-told-2 (term-list-claims t) (term-list-at t) term-list.Post term-list-Inv-loop term-list-μ-loop
-term-list-enum-told-2 t c = search needs
 
 term-list-returns-2 : (t : ℕ) → term-list-lts.Need-returns-2 (term-list-claims t) (term-list-at t) term-list.Post term-list-Inv-loop term-list-μ-loop
 term-list-returns-2 t c =
@@ -778,9 +685,6 @@ term-list-returns-2 t c =
     runs.run-stop (a .left) (lp .at) s (framed (lp .set) (lp .val)) (lp .u) (c-loop-test .taken) (lp .inv .1) _ (x .ensures) _
     (ap (λ (o : Out). wayOf (x .result .next) (outSaid o)) (c .enum-told2 .given .1)) ∙ sym (lp .inv .2)
 
-term-list-enum-told-3 : (t : ℕ) → term-list-lts.Need-enum-told-3 (term-list-claims t) (term-list-at t) term-list.Post term-list-Inv-loop term-list-μ-loop
-term-list-enum-told-3 t c = search needs
-
 term-list-returns-3 : (t : ℕ) → term-list-lts.Need-returns-3 (term-list-claims t) (term-list-at t) term-list.Post term-list-Inv-loop term-list-μ-loop
 term-list-returns-3 t c =
     let c-loop-test = c .before .before .before .before .before .loop-test in
@@ -791,9 +695,6 @@ term-list-returns-3 t c =
     runs.run-stop (a .left) (lp .at) s (framed (lp .set) (lp .val)) (lp .u) (c-loop-test .taken) (lp .inv .1) _ (x .ensures) _
     (ap (λ (o : Out). wayOf (x .result .next) (outSaid o)) (c .enum-told3 .given .1)) ∙ sym (lp .inv .2)
 
-term-list-enum-told-4 : (t : ℕ) → term-list-lts.Need-enum-told-4 (term-list-claims t) (term-list-at t) term-list.Post term-list-Inv-loop term-list-μ-loop
-term-list-enum-told-4 t c = search needs
-
 term-list-returns-4 : (t : ℕ) → term-list-lts.Need-returns-4 (term-list-claims t) (term-list-at t) term-list.Post term-list-Inv-loop term-list-μ-loop
 term-list-returns-4 t c =
     let c-loop-test = c .before .before .before .before .before .loop-test in
@@ -803,9 +704,6 @@ term-list-returns-4 t c =
     let x = c .before .before .statement-opcode in
     runs.run-stop (a .left) (lp .at) s (framed (lp .set) (lp .val)) (lp .u) (c-loop-test .taken) (lp .inv .1) _ (x .ensures) _
     (ap (λ (o : Out). wayOf (x .result .next) (outSaid o)) (c .enum-told4 .given .1)) ∙ sym (lp .inv .2)
-
-term-list-enum-known-e-2 : (t : ℕ) → term-list-lts.Need-enum-known-e-2 (term-list-claims t) (term-list-at t) term-list.Post term-list-Inv-loop term-list-μ-loop
-term-list-enum-known-e-2 t c = search needs
 
 term-list-returns-5 : (t : ℕ) → term-list-lts.Need-returns-5 (term-list-claims t) (term-list-at t) term-list.Post term-list-Inv-loop term-list-μ-loop
 term-list-returns-5 t c =
@@ -839,9 +737,6 @@ turn-eval-requires t c κs =
     let tok = c .before .before .before .before .pre .1 .2 in
     (c .before .before .before .before .pre .1 .1, runs.turn-term-acc (a .left) (a .end) (a .at) s tok)
 
-turn-enum-known-v : (t : ℕ) → turn-lts.Need-enum-known-v (turn-claims t) (turn-at t) turn.Post
-turn-enum-known-v t c = search needs
-
 turn-sub-t17 : (t : ℕ) → turn-lts.Need-sub-t17 (turn-claims t) (turn-at t) turn.Post
 turn-sub-t17 t c =
     let a = c .before .before .before .before .before .before .before .before .args in
@@ -850,9 +745,6 @@ turn-sub-t17 t c =
     let tok = c .before .before .before .before .before .before .before .before .pre .1 .2 in
     let q : a .units ≡ suc (a .units - 1) = omega (arith, c .before .before .before .before .before .before .if1 .left) in
     omega (arith, q)
-
-turn-enum-known-v-2 : (t : ℕ) → turn-lts.Need-enum-known-v-2 (turn-claims t) (turn-at t) turn.Post
-turn-enum-known-v-2 t c = search needs
 
 turn-sub-t20 : (t : ℕ) → turn-lts.Need-sub-t20 (turn-claims t) (turn-at t) turn.Post
 turn-sub-t20 t c =
@@ -962,48 +854,17 @@ turns-Inv-loop part at end left set₀ val₀ units u₀ set val u =
 abbrev turns-μ-loop : turns-lts.MeasureT-loop
 turns-μ-loop part at end left set₀ val₀ units u₀ set val u = u
 
-turns-loop-holds :
-    (t : ℕ) →
-    turns-lts.Need-loop-holds
-    (turn-below t, turn.Post)
-    (turns-at t)
-    turns.Post
-    turns-Inv-loop
-    turns-μ-loop
+turns-loop-holds : (t : ℕ) → turns-lts.Need-loop-holds (turn-below t, turn.Post) (turns-at t) turns.Post turns-Inv-loop turns-μ-loop
 turns-loop-holds t c =
     let a = c .before .args in
     let s = a .part .now in
     (suc (a .units), omega arith, refl)
 
-turns-turn-requires :
-    (t : ℕ) →
-    turns-lts.Need-turn-requires
-    (turn-below t, turn.Post)
-    (turns-at t)
-    turns.Post
-    turns-Inv-loop
-    turns-μ-loop
+turns-turn-requires : (t : ℕ) → turns-lts.Need-turn-requires (turn-below t, turn.Post) (turns-at t) turns.Post turns-Inv-loop turns-μ-loop
 turns-turn-requires t c κs =
     (omega (arith, c .before .before .before .before .pre .0), c .before .before .before .before .pre .1)
 
-turns-enum-told :
-    (t : ℕ) →
-    turns-lts.Need-enum-told
-    (turn-below t, turn.Post)
-    (turns-at t)
-    turns.Post
-    turns-Inv-loop
-    turns-μ-loop
-turns-enum-told t c = search needs
-
-turns-loop-less :
-    (t : ℕ) →
-    turns-lts.Need-loop-less
-    (turn-below t, turn.Post)
-    (turns-at t)
-    turns.Post
-    turns-Inv-loop
-    turns-μ-loop
+turns-loop-less : (t : ℕ) → turns-lts.Need-loop-less (turn-below t, turn.Post) (turns-at t) turns.Post turns-Inv-loop turns-μ-loop
 turns-loop-less t c =
     let a = c .before .before .before .before .before .before .before .args in
     let s = a .part .now in
@@ -1012,14 +873,7 @@ turns-loop-less t c =
     let ag = runs.turns-again (a .left) (a .end) (a .at) s tok (framed (lp .set) (lp .val)) (lp .u) _ (c .before .before .turn .ensures) (lp .inv .0) (lp .inv .1) (ap (λ (o : Out). goOf (outSaid o)) (c .enum-told .given .1)) in
     omega (arith, ag .0)
 
-turns-loop-again :
-    (t : ℕ) →
-    turns-lts.Need-loop-again
-    (turn-below t, turn.Post)
-    (turns-at t)
-    turns.Post
-    turns-Inv-loop
-    turns-μ-loop
+turns-loop-again : (t : ℕ) → turns-lts.Need-loop-again (turn-below t, turn.Post) (turns-at t) turns.Post turns-Inv-loop turns-μ-loop
 turns-loop-again t c =
     let a = c .before .before .before .before .before .before .before .args in
     let s = a .part .now in
@@ -1028,24 +882,7 @@ turns-loop-again t c =
     let ag = runs.turns-again (a .left) (a .end) (a .at) s tok (framed (lp .set) (lp .val)) (lp .u) _ (c .before .before .turn .ensures) (lp .inv .0) (lp .inv .1) (ap (λ (o : Out). goOf (outSaid o)) (c .enum-told .given .1)) in
     (lp .inv .0 - 1, omega (arith, ag .0, lp .inv .1), lp .inv .2 ∙ ag .1)
 
-turns-enum-told-2 :
-    (t : ℕ) →
-    turns-lts.Need-enum-told-2
-    (turn-below t, turn.Post)
-    (turns-at t)
-    turns.Post
-    turns-Inv-loop
-    turns-μ-loop
-turns-enum-told-2 t c = search needs
-
-turns-loop-less-2 :
-    (t : ℕ) →
-    turns-lts.Need-loop-less-2
-    (turn-below t, turn.Post)
-    (turns-at t)
-    turns.Post
-    turns-Inv-loop
-    turns-μ-loop
+turns-loop-less-2 : (t : ℕ) → turns-lts.Need-loop-less-2 (turn-below t, turn.Post) (turns-at t) turns.Post turns-Inv-loop turns-μ-loop
 turns-loop-less-2 t c =
     let a = c .before .before .before .before .before .before .before .args in
     let s = a .part .now in
@@ -1054,14 +891,7 @@ turns-loop-less-2 t c =
     let ag = runs.turns-again (a .left) (a .end) (a .at) s tok (framed (lp .set) (lp .val)) (lp .u) _ (c .before .before .turn .ensures) (lp .inv .0) (lp .inv .1) (ap (λ (o : Out). goOf (outSaid o)) (c .enum-told2 .given .1)) in
     omega (arith, ag .0)
 
-turns-loop-again-2 :
-    (t : ℕ) →
-    turns-lts.Need-loop-again-2
-    (turn-below t, turn.Post)
-    (turns-at t)
-    turns.Post
-    turns-Inv-loop
-    turns-μ-loop
+turns-loop-again-2 : (t : ℕ) → turns-lts.Need-loop-again-2 (turn-below t, turn.Post) (turns-at t) turns.Post turns-Inv-loop turns-μ-loop
 turns-loop-again-2 t c =
     let a = c .before .before .before .before .before .before .before .args in
     let s = a .part .now in
@@ -1070,24 +900,7 @@ turns-loop-again-2 t c =
     let ag = runs.turns-again (a .left) (a .end) (a .at) s tok (framed (lp .set) (lp .val)) (lp .u) _ (c .before .before .turn .ensures) (lp .inv .0) (lp .inv .1) (ap (λ (o : Out). goOf (outSaid o)) (c .enum-told2 .given .1)) in
     (lp .inv .0 - 1, omega (arith, ag .0, lp .inv .1), lp .inv .2 ∙ ag .1)
 
-turns-enum-known-d :
-    (t : ℕ) →
-    turns-lts.Need-enum-known-d
-    (turn-below t, turn.Post)
-    (turns-at t)
-    turns.Post
-    turns-Inv-loop
-    turns-μ-loop
-turns-enum-known-d t c = search needs
-
-turns-returns :
-    (t : ℕ) →
-    turns-lts.Need-returns
-    (turn-below t, turn.Post)
-    (turns-at t)
-    turns.Post
-    turns-Inv-loop
-    turns-μ-loop
+turns-returns : (t : ℕ) → turns-lts.Need-returns (turn-below t, turn.Post) (turns-at t) turns.Post turns-Inv-loop turns-μ-loop
 turns-returns t c =
     let c-pre = c .before .before .before .before .before .before .before .before .pre in
     let a = c .before .before .before .before .before .before .before .before .args in
@@ -1097,24 +910,7 @@ turns-returns t c =
     runs.turns-end (a .left) (a .end) (a .at) s tok (framed (lp .set) (lp .val)) (lp .u) _ (c .before .before .before .turn .ensures) (lp .inv .0)
     (lp .inv .1) _ (ap (λ (o : Out). goOf (outSaid o)) (c .before .d .given .1)) ∙ sym (lp .inv .2)
 
-turns-enum-told-3 :
-    (t : ℕ) →
-    turns-lts.Need-enum-told-3
-    (turn-below t, turn.Post)
-    (turns-at t)
-    turns.Post
-    turns-Inv-loop
-    turns-μ-loop
-turns-enum-told-3 t c = search needs
-
-turns-returns-2 :
-    (t : ℕ) →
-    turns-lts.Need-returns-2
-    (turn-below t, turn.Post)
-    (turns-at t)
-    turns.Post
-    turns-Inv-loop
-    turns-μ-loop
+turns-returns-2 : (t : ℕ) → turns-lts.Need-returns-2 (turn-below t, turn.Post) (turns-at t) turns.Post turns-Inv-loop turns-μ-loop
 turns-returns-2 t c =
     let a = c .before .before .before .before .before .before .before .args in
     let s = a .part .now in
@@ -1122,24 +918,7 @@ turns-returns-2 t c =
     let lp = c .before .before .before .before .before .loop in
     runs.turns-end (a .left) (a .end) (a .at) s tok (framed (lp .set) (lp .val)) (lp .u) _ (c .before .before .turn .ensures) (lp .inv .0) (lp .inv .1) _ (ap (λ (o : Out). goOf (outSaid o)) (c .enum-told3 .given .1)) ∙ sym (lp .inv .2)
 
-turns-enum-told-4 :
-    (t : ℕ) →
-    turns-lts.Need-enum-told-4
-    (turn-below t, turn.Post)
-    (turns-at t)
-    turns.Post
-    turns-Inv-loop
-    turns-μ-loop
-turns-enum-told-4 t c = search needs
-
-turns-returns-3 :
-    (t : ℕ) →
-    turns-lts.Need-returns-3
-    (turn-below t, turn.Post)
-    (turns-at t)
-    turns.Post
-    turns-Inv-loop
-    turns-μ-loop
+turns-returns-3 : (t : ℕ) → turns-lts.Need-returns-3 (turn-below t, turn.Post) (turns-at t) turns.Post turns-Inv-loop turns-μ-loop
 turns-returns-3 t c =
     let a = c .before .before .before .before .before .before .before .args in
     let s = a .part .now in
@@ -1147,24 +926,7 @@ turns-returns-3 t c =
     let lp = c .before .before .before .before .before .loop in
     runs.turns-end (a .left) (a .end) (a .at) s tok (framed (lp .set) (lp .val)) (lp .u) _ (c .before .before .turn .ensures) (lp .inv .0) (lp .inv .1) _ (ap (λ (o : Out). goOf (outSaid o)) (c .enum-told4 .given .1)) ∙ sym (lp .inv .2)
 
-turns-enum-known-d-2 :
-    (t : ℕ) →
-    turns-lts.Need-enum-known-d-2
-    (turn-below t, turn.Post)
-    (turns-at t)
-    turns.Post
-    turns-Inv-loop
-    turns-μ-loop
-turns-enum-known-d-2 t c = search needs
-
-turns-returns-4 :
-    (t : ℕ) →
-    turns-lts.Need-returns-4
-    (turn-below t, turn.Post)
-    (turns-at t)
-    turns.Post
-    turns-Inv-loop
-    turns-μ-loop
+turns-returns-4 : (t : ℕ) → turns-lts.Need-returns-4 (turn-below t, turn.Post) (turns-at t) turns.Post turns-Inv-loop turns-μ-loop
 turns-returns-4 t c =
     let c-pre = c .before .before .before .before .before .before .before .before .pre in
     let a = c .before .before .before .before .before .before .before .before .args in
@@ -1177,144 +939,31 @@ turns-returns-4 t c =
 pub +def-else+def-if-else+def-while+statement-opcode+term-list+turn+turns-spec :
     {M : Type 1} → statement M
 +def-else+def-if-else+def-while+statement-opcode+term-list+turn+turns-spec =
-    close
-    μ-def-else
-    μ-def-if-else
-    μ-def-while
-    μ-statement-opcode
-    μ-term-list
-    μ-turn
-    μ-turns
-    (λ t. def-else-lts.spec
-    (pkg-reads.Asked, pkg-reads.Learnt, term-list-below t, term-list.Post)
-    (def-else-at t)
-    def-else.Post
-    (def-else-returns t)
-    (def-else-shared-slice-read-if2 t)
-    (def-else-returns-2 t)
-    (def-else-add-pkg t)
-    (def-else-pkg-requires t)
-    (def-else-add-body t)
-    (def-else-add-body-2 t)
-    (def-else-add-end t)
-    (def-else-add-end-2 t)
-    (def-else-sub-term-list t)
-    (def-else-part-term-list-start t)
-    (def-else-part-term-list-end t)
-    (def-else-term-list-requires t)
+    close μ-def-else μ-def-if-else μ-def-while μ-statement-opcode μ-term-list μ-turn μ-turns
+    (λ t. def-else-lts.spec (pkg-reads.Asked, pkg-reads.Learnt, term-list-below t, term-list.Post) (def-else-at t) def-else.Post (def-else-returns t)
+    (λ c. search needs) (def-else-returns-2 t) (λ c. search needs) (def-else-pkg-requires t) (λ c. search needs) (def-else-add-body-2 t) (λ c. search needs)
+    (def-else-add-end-2 t) (def-else-sub-term-list t) (def-else-part-term-list-start t) (def-else-part-term-list-end t) (def-else-term-list-requires t)
     (def-else-returns-3 t))
-    (λ t. def-if-else-lts.spec (def-if-else-claims t) (def-if-else-at t) def-if-else.Post
-    (def-if-else-pkg-requires t)
-    (def-if-else-add-end t)
-    (def-if-else-add-eval t)
-    (def-if-else-eval-requires t)
-    (def-if-else-enum-known-v t)
-    (def-if-else-enum-known-v-2 t)
-    (def-if-else-else-end-requires t)
-    (def-if-else-def-else-requires t)
-    (def-if-else-finish-requires t)
-    (def-if-else-sub-term-list t)
-    (def-if-else-part-term-list-start t)
-    (def-if-else-part-term-list-end t)
-    (def-if-else-term-list-requires t)
-    (def-if-else-finish-requires-2 t)
-    (def-if-else-returns t)
-    (def-if-else-returns-2 t)
+    (λ t. def-if-else-lts.spec (def-if-else-claims t) (def-if-else-at t) def-if-else.Post (def-if-else-pkg-requires t) (def-if-else-add-end t)
+    (def-if-else-add-eval t) (def-if-else-eval-requires t) (λ c. search needs) (λ c. search needs) (def-if-else-else-end-requires t)
+    (def-if-else-def-else-requires t) (λ c κs. search needs) (def-if-else-sub-term-list t) (def-if-else-part-term-list-start t)
+    (def-if-else-part-term-list-end t) (def-if-else-term-list-requires t) (λ c κs. search needs) (def-if-else-returns t) (def-if-else-returns-2 t)
     (def-if-else-returns-3 t))
-    (λ t. def-while-lts.spec (def-while-claims t) (def-while-at t) def-while.Post
-    (def-while-pkg-requires t)
-    (def-while-add-end t)
-    (def-while-add-turns t)
-    (def-while-turns-requires t)
-    (def-while-finish-requires t)
-    (def-while-returns t))
-    (λ t. statement-opcode-lts.spec (statement-opcode-claims t) (statement-opcode-at t) statement-opcode.Post
-    (statement-opcode-returns t)
-    (statement-opcode-sub-u t)
-    (statement-opcode-shared-slice-read-stmt-op t)
-    (statement-opcode-stmt-op-requires t)
-    (statement-opcode-enum-known-op t)
-    (statement-opcode-add-plain t)
-    (statement-opcode-plain-requires t)
-    (statement-opcode-enum-told t)
-    (statement-opcode-add-eval t)
-    (statement-opcode-eval-requires t)
-    (statement-opcode-def-return-requires t)
-    (statement-opcode-enum-told-2 t)
-    (statement-opcode-add-def-if-else t)
-    (statement-opcode-sub-def-if-else t)
-    (statement-opcode-def-if-else-requires t)
-    (statement-opcode-enum-told-3 t)
-    (statement-opcode-add-def-while t)
-    (statement-opcode-sub-def-while t)
-    (statement-opcode-def-while-requires t)
-    (statement-opcode-enum-told-4 t)
-    (statement-opcode-term-arg-requires t)
-    (statement-opcode-dropped-requires t)
-    (statement-opcode-returns-2 t)
-    (statement-opcode-returns-3 t)
-    (statement-opcode-returns-4 t)
-    (statement-opcode-returns-5 t)
-    (statement-opcode-returns-6 t))
-    (λ t. term-list-lts.spec
-    (statement-opcode-below t, statement-opcode.Post)
-    (term-list-at t)
-    term-list.Post
-    term-list-Inv-loop
-    term-list-μ-loop
-    (term-list-loop-holds t)
-    (term-list-statement-opcode-requires t)
-    (term-list-enum-told t)
-    (term-list-loop-less t)
-    (term-list-loop-again t)
-    (term-list-enum-known-e t)
-    (term-list-returns t)
-    (term-list-enum-told-2 t)
-    (term-list-returns-2 t)
-    (term-list-enum-told-3 t)
-    (term-list-returns-3 t)
-    (term-list-enum-told-4 t)
-    (term-list-returns-4 t)
-    (term-list-enum-known-e-2 t)
-    (term-list-returns-5 t)
-    (term-list-returns-6 t))
-    (λ t. turn-lts.spec
-    (eval-reads.Asked, eval-reads.Learnt, term-list-below t, term-list.Post)
-    (turn-at t)
-    turn.Post
-    (turn-returns t)
-    (turn-eval-requires t)
-    (turn-enum-known-v t)
-    (turn-sub-t17 t)
-    (turn-enum-known-v-2 t)
-    (turn-sub-t20 t)
-    (turn-returns-2 t)
-    (turn-sub-term-list t)
-    (turn-part-term-list-start t)
-    (turn-part-term-list-end t)
-    (turn-sub-term-list-2 t)
-    (turn-term-list-requires t)
-    (turn-returns-3 t)
-    (turn-returns-4 t))
-    λ t. turns-lts.spec
-    (turn-below t, turn.Post)
-    (turns-at t)
-    turns.Post
-    turns-Inv-loop
-    turns-μ-loop
-    (turns-loop-holds t)
-    (turns-turn-requires t)
-    (turns-enum-told t)
-    (turns-loop-less t)
-    (turns-loop-again t)
-    (turns-enum-told-2 t)
-    (turns-loop-less-2 t)
-    (turns-loop-again-2 t)
-    (turns-enum-known-d t)
-    (turns-returns t)
-    (turns-enum-told-3 t)
-    (turns-returns-2 t)
-    (turns-enum-told-4 t)
-    (turns-returns-3 t)
-    (turns-enum-known-d-2 t)
-    (turns-returns-4 t)
+    (λ t. def-while-lts.spec (def-while-claims t) (def-while-at t) def-while.Post (def-while-pkg-requires t) (def-while-add-end t) (def-while-add-turns t)
+    (def-while-turns-requires t) (λ c κs. search needs) (def-while-returns t))
+    (λ t. statement-opcode-lts.spec (statement-opcode-claims t) (statement-opcode-at t) statement-opcode.Post (statement-opcode-returns t) (λ c. search needs)
+    (statement-opcode-shared-slice-read-stmt-op t) (λ c κs. search needs) (λ c. search needs) (λ c. search needs) (λ c κs. search needs) (λ c. search needs)
+    (λ c. search needs) (statement-opcode-eval-requires t) (λ c κs. search needs) (λ c. search needs) (λ c. search needs) (statement-opcode-sub-def-if-else t)
+    (statement-opcode-def-if-else-requires t) (λ c. search needs) (λ c. search needs) (statement-opcode-sub-def-while t) (statement-opcode-def-while-requires t)
+    (λ c. search needs) (statement-opcode-term-arg-requires t) (λ c κs. search needs) (statement-opcode-returns-2 t) (statement-opcode-returns-3 t)
+    (statement-opcode-returns-4 t) (statement-opcode-returns-5 t) (statement-opcode-returns-6 t))
+    (λ t. term-list-lts.spec (statement-opcode-below t, statement-opcode.Post) (term-list-at t) term-list.Post term-list-Inv-loop term-list-μ-loop
+    (term-list-loop-holds t) (term-list-statement-opcode-requires t) (λ c. search needs) (term-list-loop-less t) (term-list-loop-again t) (λ c. search needs)
+    (term-list-returns t) (λ c. search needs) (term-list-returns-2 t) (λ c. search needs) (term-list-returns-3 t) (λ c. search needs) (term-list-returns-4 t)
+    (λ c. search needs) (term-list-returns-5 t) (term-list-returns-6 t))
+    (λ t. turn-lts.spec (eval-reads.Asked, eval-reads.Learnt, term-list-below t, term-list.Post) (turn-at t) turn.Post (turn-returns t) (turn-eval-requires t)
+    (λ c. search needs) (turn-sub-t17 t) (λ c. search needs) (turn-sub-t20 t) (turn-returns-2 t) (turn-sub-term-list t) (turn-part-term-list-start t)
+    (turn-part-term-list-end t) (turn-sub-term-list-2 t) (turn-term-list-requires t) (turn-returns-3 t) (turn-returns-4 t))
+    (λ t. turns-lts.spec (turn-below t, turn.Post) (turns-at t) turns.Post turns-Inv-loop turns-μ-loop (turns-loop-holds t) (turns-turn-requires t)
+    (λ c. search needs) (turns-loop-less t) (turns-loop-again t) (λ c. search needs) (turns-loop-less-2 t) (turns-loop-again-2 t) (λ c. search needs)
+    (turns-returns t) (λ c. search needs) (turns-returns-2 t) (λ c. search needs) (turns-returns-3 t) (λ c. search needs) (turns-returns-4 t))

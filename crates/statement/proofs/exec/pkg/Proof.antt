@@ -1,10 +1,6 @@
 -- A package that was read is not refused, and holds its own bytes.
-use mathlib.Core.Path.{sym, _∙_, ap}
-use Prim.Native.Nat.{_≤_}
-use lib.ListN.{length, drop, length-drop}
-use Rattle.pkg_length.specs.Refusal.{blockLimit}
-use Rattle.pkg_length.specs.Pkg.{pkgSaid, pkgLength}
-use Rattle.statement.proofs.Reaches.{tail, package-no, package-held}
+use mathlib.Core.Path.{refl, sym}
+use Rattle.statement.proofs.Packages.{package-no, package-held}
 use Rattle.statement.proofs.Evals.{acc-same}
 use borrow.Author.Needs.{needs}
 use native.Mathlib.Omega.{arith}
@@ -14,18 +10,17 @@ use Rattle.statement.proofs.exec.pkg.Tie as tie
 returns : tie.Need-returns
 returns c =
     let a = c .before .before .before .before .before .args in
-    let t = drop (a .at) (a .part .now) in
-    let short : length t ≤ blockLimit = omega (arith, length-drop (a .at) (a .part .now)) in
-    let k = package-no t 0 short _ _ (sym (ap pkgSaid (c .enum-told .given .1)) ∙ c .before .before .pkg-length .ensures ∙ ap pkgLength (tail (a .part .now) (a .at))) in
-    absurd (acc-same (sym (k .is)) (c .before .before .before .before .before .pre .2))
+    let w = c .before .before .pkg-length in
+    let z = c .enum-told .given in
+    let k = package-no (a .part .now) (a .at) (omega arith) (w .result) (w .ensures) 0 (z .0 .0) _ (z .1) refl in
+    absurd (acc-same (sym (k .0)) (c .before .before .before .before .before .pre .2))
 
 returns-2 : tie.Need-returns-2
 returns-2 c =
     let a = c .before .before .before .before .before .before .args in
-    let t = drop (a .at) (a .part .now) in
-    let short : length t ≤ blockLimit = omega (arith, length-drop (a .at) (a .part .now)) in
+    let w = c .before .before .before .pkg-length in
     let z = c .before .w .given in
-    package-held t 0 short (z .0 .0) (z .0 .1 .0) (sym (ap pkgSaid (z .1)) ∙ c .before .before .before .pkg-length .ensures ∙ ap pkgLength (tail (a .part .now) (a .at))) (c .before .before .before .before .before .before .pre .2)
+    package-held (a .part .now) (a .at) (omega arith) (w .result) (w .ensures) 0 (z .0 .0) (z .0 .1 .0) (z .1) (c .before .before .before .before .before .before .pre .2)
 
 pub pkg-spec : {M : Type 1} → statement M
 pkg-spec =

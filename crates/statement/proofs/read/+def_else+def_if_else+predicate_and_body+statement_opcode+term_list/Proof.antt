@@ -2,9 +2,9 @@
 use mathlib.Core.Path.{_≡_, refl, sym, _∙_, ap}
 use Prim.Native.Nat.{ℕ, _<_, _≤_, _+_, _-_, _*_}
 use lib.ListN.{length, drop, length-take, length-drop}
-use Rattle.statement.specs.Reading.{Stmt, return}
+use Rattle.statement.specs.Tree.{Stmt, return}
 use Rattle.statement.specs.Grammar.{depthLimit}
-use Rattle.statement.specs.Refusal.{readTerm, readList, readIf, readHead, whileOf}
+use Rattle.statement.specs.Reader.{readTerm, readList, readIf, readHead, whileOf}
 use Rattle.statement.specs.Said.{upTo}
 use Rattle.statement.proofs.Reaches as reaches
 use borrow.Author.Needs.{needs}
@@ -56,55 +56,31 @@ abbrev def-else-at : ℕ → In 1 def-else-kinds.ps
 def-else-at t = and 1 def-else-kinds.ps (is 1 def-else-kinds.ps μ-def-else t) def-else.Pre
 
 abbrev def-else-below : ℕ → In 1 def-else-kinds.ps
-def-else-below t =
-    and 1 def-else-kinds.ps (falls 1 def-else-kinds.ps _<_ μ-def-else t) def-else.Pre
+def-else-below t = and 1 def-else-kinds.ps (falls 1 def-else-kinds.ps _<_ μ-def-else t) def-else.Pre
 
 abbrev def-if-else-at : ℕ → In 1 def-if-else-kinds.ps
-def-if-else-at t =
-    and 1 def-if-else-kinds.ps (is 1 def-if-else-kinds.ps μ-def-if-else t) def-if-else.Pre
+def-if-else-at t = and 1 def-if-else-kinds.ps (is 1 def-if-else-kinds.ps μ-def-if-else t) def-if-else.Pre
 
 abbrev def-if-else-below : ℕ → In 1 def-if-else-kinds.ps
-def-if-else-below t =
-    and 1 def-if-else-kinds.ps (falls 1 def-if-else-kinds.ps _<_ μ-def-if-else t) def-if-else.Pre
+def-if-else-below t = and 1 def-if-else-kinds.ps (falls 1 def-if-else-kinds.ps _<_ μ-def-if-else t) def-if-else.Pre
 
 abbrev predicate-and-body-at : ℕ → In 1 predicate-and-body-kinds.ps
-predicate-and-body-at t =
-    and
-    1
-    predicate-and-body-kinds.ps
-    (is 1 predicate-and-body-kinds.ps μ-predicate-and-body t)
-    predicate-and-body.Pre
+predicate-and-body-at t = and 1 predicate-and-body-kinds.ps (is 1 predicate-and-body-kinds.ps μ-predicate-and-body t) predicate-and-body.Pre
 
 abbrev predicate-and-body-below : ℕ → In 1 predicate-and-body-kinds.ps
-predicate-and-body-below t =
-    and
-    1
-    predicate-and-body-kinds.ps
-    (falls 1 predicate-and-body-kinds.ps _<_ μ-predicate-and-body t)
-    predicate-and-body.Pre
+predicate-and-body-below t = and 1 predicate-and-body-kinds.ps (falls 1 predicate-and-body-kinds.ps _<_ μ-predicate-and-body t) predicate-and-body.Pre
 
 abbrev statement-opcode-at : ℕ → In 1 statement-opcode-kinds.ps
-statement-opcode-at t =
-    and
-    1
-    statement-opcode-kinds.ps
-    (is 1 statement-opcode-kinds.ps μ-statement-opcode t)
-    statement-opcode.Pre
+statement-opcode-at t = and 1 statement-opcode-kinds.ps (is 1 statement-opcode-kinds.ps μ-statement-opcode t) statement-opcode.Pre
 
 abbrev statement-opcode-below : ℕ → In 1 statement-opcode-kinds.ps
-statement-opcode-below t =
-    and
-    1
-    statement-opcode-kinds.ps
-    (falls 1 statement-opcode-kinds.ps _<_ μ-statement-opcode t)
-    statement-opcode.Pre
+statement-opcode-below t = and 1 statement-opcode-kinds.ps (falls 1 statement-opcode-kinds.ps _<_ μ-statement-opcode t) statement-opcode.Pre
 
 abbrev term-list-at : ℕ → In 1 term-list-kinds.ps
 term-list-at t = and 1 term-list-kinds.ps (is 1 term-list-kinds.ps μ-term-list t) term-list.Pre
 
 abbrev term-list-below : ℕ → In 1 term-list-kinds.ps
-term-list-below t =
-    and 1 term-list-kinds.ps (falls 1 term-list-kinds.ps _<_ μ-term-list t) term-list.Pre
+term-list-below t = and 1 term-list-kinds.ps (falls 1 term-list-kinds.ps _<_ μ-term-list t) term-list.Pre
 
 abbrev def-else-claims : ℕ → def-else-lts.Claims
 def-else-claims t = (pkg-reads.Asked, pkg-reads.Learnt, term-list-below t, term-list.Post)
@@ -125,18 +101,9 @@ def-else-returns : (t : ℕ) → def-else-lts.Need-returns (def-else-claims t) (
 def-else-returns t c =
     let a = c .before .before .args in reaches.else-end (a .left) (a .base + a .at) (a .at) (a .part .now) (c .if1 .taken)
 
-def-else-shared-slice-read-if2 : (t : ℕ) → def-else-lts.Need-shared-slice-read-if2 (def-else-claims t) (def-else-at t) def-else.Post
-def-else-shared-slice-read-if2 t c = search needs
-
 def-else-returns-2 : (t : ℕ) → def-else-lts.Need-returns-2 (def-else-claims t) (def-else-at t) def-else.Post
 def-else-returns-2 t c =
     let a = c .before .before .before .before .args in reaches.else-other (a .left) (a .base + a .at) (a .at) (a .part .now) (c .before .before .if1 .left) (c .if2 .taken)
-
-def-else-add-pkg : (t : ℕ) → def-else-lts.Need-add-pkg (def-else-claims t) (def-else-at t) def-else.Post
-def-else-add-pkg t c = search needs
-
-def-else-pkg-requires : (t : ℕ) → def-else-lts.Need-pkg-requires (def-else-claims t) (def-else-at t) def-else.Post
-def-else-pkg-requires t c κs = search needs
 
 def-else-returns-3 : (t : ℕ) → def-else-lts.Need-returns-3 (def-else-claims t) (def-else-at t) def-else.Post
 def-else-returns-3 t c =
@@ -147,9 +114,6 @@ def-else-returns-3 t c =
     let a = c8 .args in
     reaches.package-stop (c3 .pkg .result) (c .if3 .taken) (reaches.else-no-package (a .left) (a .base) (a .at) (a .part .now) (c6 .if1 .left) (c4 .if2 .left)) (c3 .pkg .ensures)
 
-def-else-add-body : (t : ℕ) → def-else-lts.Need-add-body (def-else-claims t) (def-else-at t) def-else.Post
-def-else-add-body t c = search needs
-
 def-else-add-body-2 : (t : ℕ) → def-else-lts.Need-add-body-2 (def-else-claims t) (def-else-at t) def-else.Post
 def-else-add-body-2 t c =
     let c4 = c .before .before .before .before in
@@ -157,9 +121,6 @@ def-else-add-body-2 t c =
     let c9 = c7 .before .before in
     let a = c9 .args in
     omega (arith, reaches.package-within (c4 .pkg .result) (c .before .if3 .left) (a .base + (a .at + 1)) (a .at + 1) (a .part .now) (c4 .pkg .ensures) (omega (arith, c7 .if1 .left)), c9 .pre .1)
-
-def-else-add-end : (t : ℕ) → def-else-lts.Need-add-end (def-else-claims t) (def-else-at t) def-else.Post
-def-else-add-end t c = search needs
 
 def-else-add-end-2 : (t : ℕ) → def-else-lts.Need-add-end-2 (def-else-claims t) (def-else-at t) def-else.Post
 def-else-add-end-2 t c =
@@ -244,9 +205,6 @@ def-else-returns-5 t c =
     let ew = sym (reaches.package-goes-on w (c6 .if3 .left)) ∙ c9 .pkg .ensures in
     reaches.else-body (a .left) (a .base) (a .at) (a .part .now) (c12 .if1 .left) (c10 .if2 .left) (w .0 .1) (w .1) ew _ (sym (reaches.goes-on (c .before .before .term-list .result) (c .if4 .left)) ∙ c .before .before .term-list .ensures)
 
-def-if-else-predicate-and-body-requires : (t : ℕ) → def-if-else-lts.Need-predicate-and-body-requires (def-if-else-claims t) (def-if-else-at t) def-if-else.Post
-def-if-else-predicate-and-body-requires t c κs = search needs
-
 def-if-else-returns : (t : ℕ) → def-if-else-lts.Need-returns (def-if-else-claims t) (def-if-else-at t) def-if-else.Post
 def-if-else-returns t c =
     let a = c .before .before .before .before .args in
@@ -263,9 +221,6 @@ def-if-else-returns-2 t c =
     let a = c .before .before .before .before .before .args in
     let h = c .before .before .before .predicate-and-body .result in
     reaches.if-else (a .left) (a .base) (a .at) (a .part .now) (h .1) (sym (reaches.goes-on h (c .before .if1 .left)) ∙ c .before .before .before .predicate-and-body .ensures) _ (c .def-else .ensures)
-
-predicate-and-body-pkg-requires : (t : ℕ) → predicate-and-body-lts.Need-pkg-requires (predicate-and-body-claims t) (predicate-and-body-at t) predicate-and-body.Post
-predicate-and-body-pkg-requires t c κs = search needs
 
 predicate-and-body-returns : (t : ℕ) → predicate-and-body-lts.Need-returns (predicate-and-body-claims t) (predicate-and-body-at t) predicate-and-body.Post
 predicate-and-body-returns t c =
@@ -300,9 +255,6 @@ predicate-and-body-add-end t c =
     let a = c10 .args in
     let w = c8 .pkg .result in
     omega (arith, reaches.package-within w (c5 .if1 .left) (a .base + a .at) (a .at) (a .part .now) (c8 .pkg .ensures) (c10 .pre .1 .0), c10 .pre .1)
-
-predicate-and-body-add-t13 : (t : ℕ) → predicate-and-body-lts.Need-add-t13 (predicate-and-body-claims t) (predicate-and-body-at t) predicate-and-body.Post
-predicate-and-body-add-t13 t c = search needs
 
 predicate-and-body-returns-3 : (t : ℕ) → predicate-and-body-lts.Need-returns-3 (predicate-and-body-claims t) (predicate-and-body-at t) predicate-and-body.Post
 predicate-and-body-returns-3 t c =
@@ -379,63 +331,9 @@ predicate-and-body-returns-5 t c =
     let et = sym (reaches.goes-on t (c .before .before .before .before .before .before .if2 .left)) ∙ c .before .before .before .before .before .before .before .before .term-arg .ensures in
     reaches.head-body (a .left) (a .base) (a .at) (a .part .now) (w .0 .1) (w .1) ew (t .1) et (c .before .before .before .before .if3 .left) _ (sym (reaches.goes-on (c .before .before .term-list .result) (c .if4 .left)) ∙ c .before .before .term-list .ensures)
 
-statement-opcode-add-t7 : (t : ℕ) → statement-opcode-lts.Need-add-t7 (statement-opcode-claims t) (statement-opcode-at t) statement-opcode.Post
-statement-opcode-add-t7 t c = search needs
-
 statement-opcode-returns : (t : ℕ) → statement-opcode-lts.Need-returns (statement-opcode-claims t) (statement-opcode-at t) statement-opcode.Post
 statement-opcode-returns t c =
     let a = c .before .before .args in reaches.stmt-deep (a .left) (a .base) (a .at) (a .part .now) (c .if1 .taken)
-
-statement-opcode-shared-slice-read-stmt-op : (t : ℕ) → statement-opcode-lts.Need-shared-slice-read-stmt-op (statement-opcode-claims t) (statement-opcode-at t) statement-opcode.Post
-statement-opcode-shared-slice-read-stmt-op t c = search needs
-
-statement-opcode-stmt-op-requires : (t : ℕ) → statement-opcode-lts.Need-stmt-op-requires (statement-opcode-claims t) (statement-opcode-at t) statement-opcode.Post
-statement-opcode-stmt-op-requires t c κs = search needs
-
-statement-opcode-enum-told : (t : ℕ) → statement-opcode-lts.Need-enum-told (statement-opcode-claims t) (statement-opcode-at t) statement-opcode.Post
-statement-opcode-enum-told t c = search needs
-
-statement-opcode-add-t11 : (t : ℕ) → statement-opcode-lts.Need-add-t11 (statement-opcode-claims t) (statement-opcode-at t) statement-opcode.Post
-statement-opcode-add-t11 t c = search needs
-
-statement-opcode-enum-told-2 : (t : ℕ) → statement-opcode-lts.Need-enum-told-2 (statement-opcode-claims t) (statement-opcode-at t) statement-opcode.Post
-statement-opcode-enum-told-2 t c = search needs
-
-statement-opcode-add-term-arg : (t : ℕ) → statement-opcode-lts.Need-add-term-arg (statement-opcode-claims t) (statement-opcode-at t) statement-opcode.Post
-statement-opcode-add-term-arg t c = search needs
-
-statement-opcode-term-arg-requires : (t : ℕ) → statement-opcode-lts.Need-term-arg-requires (statement-opcode-claims t) (statement-opcode-at t) statement-opcode.Post
-statement-opcode-term-arg-requires t c κs = search needs
-
-statement-opcode-enum-told-3 : (t : ℕ) → statement-opcode-lts.Need-enum-told-3 (statement-opcode-claims t) (statement-opcode-at t) statement-opcode.Post
-statement-opcode-enum-told-3 t c = search needs
-
-statement-opcode-add-def-if-else : (t : ℕ) → statement-opcode-lts.Need-add-def-if-else (statement-opcode-claims t) (statement-opcode-at t) statement-opcode.Post
-statement-opcode-add-def-if-else t c = search needs
-
-statement-opcode-sub-def-if-else : (t : ℕ) → statement-opcode-lts.Need-sub-def-if-else (statement-opcode-claims t) (statement-opcode-at t) statement-opcode.Post
-statement-opcode-sub-def-if-else t c = search needs
-
-statement-opcode-def-if-else-requires : (t : ℕ) → statement-opcode-lts.Need-def-if-else-requires (statement-opcode-claims t) (statement-opcode-at t) statement-opcode.Post
-statement-opcode-def-if-else-requires t c κs = search needs
-
-statement-opcode-enum-told-4 : (t : ℕ) → statement-opcode-lts.Need-enum-told-4 (statement-opcode-claims t) (statement-opcode-at t) statement-opcode.Post
-statement-opcode-enum-told-4 t c = search needs
-
-statement-opcode-add-predicate-and-body : (t : ℕ) → statement-opcode-lts.Need-add-predicate-and-body (statement-opcode-claims t) (statement-opcode-at t) statement-opcode.Post
-statement-opcode-add-predicate-and-body t c = search needs
-
-statement-opcode-sub-predicate-and-body : (t : ℕ) → statement-opcode-lts.Need-sub-predicate-and-body (statement-opcode-claims t) (statement-opcode-at t) statement-opcode.Post
-statement-opcode-sub-predicate-and-body t c = search needs
-
-statement-opcode-predicate-and-body-requires : (t : ℕ) → statement-opcode-lts.Need-predicate-and-body-requires (statement-opcode-claims t) (statement-opcode-at t) statement-opcode.Post
-statement-opcode-predicate-and-body-requires t c κs = search needs
-
-statement-opcode-enum-told-5 : (t : ℕ) → statement-opcode-lts.Need-enum-told-5 (statement-opcode-claims t) (statement-opcode-at t) statement-opcode.Post
-statement-opcode-enum-told-5 t c = search needs
-
-statement-opcode-expression-opcode-requires : (t : ℕ) → statement-opcode-lts.Need-expression-opcode-requires (statement-opcode-claims t) (statement-opcode-at t) statement-opcode.Post
-statement-opcode-expression-opcode-requires t c κs = search needs
 
 statement-opcode-returns-2 : (t : ℕ) → statement-opcode-lts.Need-returns-2 (statement-opcode-claims t) (statement-opcode-at t) statement-opcode.Post
 statement-opcode-returns-2 t c =
@@ -492,9 +390,6 @@ term-list-loop-holds : (t : ℕ) → term-list-lts.Need-loop-holds (term-list-cl
 term-list-loop-holds t c =
     let a = c .before .args in (omega arith, let q : a .base ≡ a .base + 0 = omega arith in ap (λ (k : ℕ). upTo 0 (readList (a .left) k (a .part .now))) q)
 
-term-list-statement-opcode-requires : (t : ℕ) → term-list-lts.Need-statement-opcode-requires (term-list-claims t) (term-list-at t) term-list.Post term-list-Inv-loop term-list-μ-loop
-term-list-statement-opcode-requires t c κs = search needs
-
 term-list-returns : (t : ℕ) → term-list-lts.Need-returns (term-list-claims t) (term-list-at t) term-list.Post term-list-Inv-loop term-list-μ-loop
 term-list-returns t c =
     let c3 = c .before .before .before in
@@ -523,79 +418,22 @@ term-list-returns-2 t c =
 pub +def-else+def-if-else+predicate-and-body+statement-opcode+term-list-spec :
     {M : Type 1} → statement M
 +def-else+def-if-else+predicate-and-body+statement-opcode+term-list-spec =
-    close
-    μ-def-else
-    μ-def-if-else
-    μ-predicate-and-body
-    μ-statement-opcode
-    μ-term-list
-    (λ t. def-else-lts.spec (def-else-claims t) (def-else-at t) def-else.Post
-    (def-else-returns t)
-    (def-else-shared-slice-read-if2 t)
-    (def-else-returns-2 t)
-    (def-else-add-pkg t)
-    (def-else-pkg-requires t)
-    (def-else-returns-3 t)
-    (def-else-add-body t)
-    (def-else-add-body-2 t)
-    (def-else-add-end t)
-    (def-else-add-end-2 t)
-    (def-else-sub-term-list t)
-    (def-else-part-term-list-start t)
-    (def-else-part-term-list-end t)
-    (def-else-add-term-list t)
-    (def-else-term-list-requires t)
-    (def-else-returns-4 t)
-    (def-else-returns-5 t))
-    (λ t. def-if-else-lts.spec (def-if-else-claims t) (def-if-else-at t) def-if-else.Post
-    (def-if-else-predicate-and-body-requires t)
-    (def-if-else-returns t)
-    (def-if-else-def-else-requires t)
-    (def-if-else-returns-2 t))
-    (λ t. predicate-and-body-lts.spec (predicate-and-body-claims t) (predicate-and-body-at t) predicate-and-body.Post
-    (predicate-and-body-pkg-requires t)
-    (predicate-and-body-returns t)
-    (predicate-and-body-add-term-arg t)
-    (predicate-and-body-term-arg-requires t)
-    (predicate-and-body-returns-2 t)
-    (predicate-and-body-add-end t)
-    (predicate-and-body-add-t13 t)
-    (predicate-and-body-returns-3 t)
-    (predicate-and-body-part-term-list-start t)
-    (predicate-and-body-part-term-list-end t)
-    (predicate-and-body-add-term-list t)
-    (predicate-and-body-term-list-requires t)
-    (predicate-and-body-returns-4 t)
+    close μ-def-else μ-def-if-else μ-predicate-and-body μ-statement-opcode μ-term-list
+    (λ t. def-else-lts.spec (def-else-claims t) (def-else-at t) def-else.Post (def-else-returns t) (λ c. search needs) (def-else-returns-2 t)
+    (λ c. search needs) (λ c κs. search needs) (def-else-returns-3 t) (λ c. search needs) (def-else-add-body-2 t) (λ c. search needs) (def-else-add-end-2 t)
+    (def-else-sub-term-list t) (def-else-part-term-list-start t) (def-else-part-term-list-end t) (def-else-add-term-list t) (def-else-term-list-requires t)
+    (def-else-returns-4 t) (def-else-returns-5 t))
+    (λ t. def-if-else-lts.spec (def-if-else-claims t) (def-if-else-at t) def-if-else.Post (λ c κs. search needs) (def-if-else-returns t)
+    (def-if-else-def-else-requires t) (def-if-else-returns-2 t))
+    (λ t. predicate-and-body-lts.spec (predicate-and-body-claims t) (predicate-and-body-at t) predicate-and-body.Post (λ c κs. search needs)
+    (predicate-and-body-returns t) (predicate-and-body-add-term-arg t) (predicate-and-body-term-arg-requires t) (predicate-and-body-returns-2 t)
+    (predicate-and-body-add-end t) (λ c. search needs) (predicate-and-body-returns-3 t) (predicate-and-body-part-term-list-start t)
+    (predicate-and-body-part-term-list-end t) (predicate-and-body-add-term-list t) (predicate-and-body-term-list-requires t) (predicate-and-body-returns-4 t)
     (predicate-and-body-returns-5 t))
-    (λ t. statement-opcode-lts.spec (statement-opcode-claims t) (statement-opcode-at t) statement-opcode.Post
-    (statement-opcode-add-t7 t)
-    (statement-opcode-returns t)
-    (statement-opcode-shared-slice-read-stmt-op t)
-    (statement-opcode-stmt-op-requires t)
-    (statement-opcode-enum-told t)
-    (statement-opcode-add-t11 t)
-    (statement-opcode-enum-told-2 t)
-    (statement-opcode-add-term-arg t)
-    (statement-opcode-term-arg-requires t)
-    (statement-opcode-enum-told-3 t)
-    (statement-opcode-add-def-if-else t)
-    (statement-opcode-sub-def-if-else t)
-    (statement-opcode-def-if-else-requires t)
-    (statement-opcode-enum-told-4 t)
-    (statement-opcode-add-predicate-and-body t)
-    (statement-opcode-sub-predicate-and-body t)
-    (statement-opcode-predicate-and-body-requires t)
-    (statement-opcode-enum-told-5 t)
-    (statement-opcode-expression-opcode-requires t)
-    (statement-opcode-returns-2 t)
-    (statement-opcode-returns-3 t)
-    (statement-opcode-returns-4 t)
-    (statement-opcode-returns-5 t)
-    (statement-opcode-returns-6 t))
-    λ t. term-list-lts.spec (term-list-claims t) (term-list-at t) term-list.Post term-list-Inv-loop term-list-μ-loop
-    (term-list-loop-holds t)
-    (term-list-statement-opcode-requires t)
-    (term-list-returns t)
-    (term-list-loop-less t)
-    (term-list-loop-again t)
-    (term-list-returns-2 t)
+    (λ t. statement-opcode-lts.spec (statement-opcode-claims t) (statement-opcode-at t) statement-opcode.Post (λ c. search needs) (statement-opcode-returns t)
+    (λ c. search needs) (λ c κs. search needs) (λ c. search needs) (λ c. search needs) (λ c. search needs) (λ c. search needs) (λ c κs. search needs)
+    (λ c. search needs) (λ c. search needs) (λ c. search needs) (λ c κs. search needs) (λ c. search needs) (λ c. search needs) (λ c. search needs)
+    (λ c κs. search needs) (λ c. search needs) (λ c κs. search needs) (statement-opcode-returns-2 t) (statement-opcode-returns-3 t)
+    (statement-opcode-returns-4 t) (statement-opcode-returns-5 t) (statement-opcode-returns-6 t))
+    (λ t. term-list-lts.spec (term-list-claims t) (term-list-at t) term-list.Post term-list-Inv-loop term-list-μ-loop (term-list-loop-holds t)
+    (λ c κs. search needs) (term-list-returns t) (term-list-loop-less t) (term-list-loop-again t) (term-list-returns-2 t))

@@ -1,11 +1,7 @@
 -- What the layer below promises of the part from the length on, with its place moved: a refusal is 1 or 2, and a length that was read fits the part.
-use mathlib.Core.Path.{sym, _∙_, ap}
-use Prim.Native.Nat.{_+_, _≤_}
-use lib.ListN.{length, drop, length-drop}
-use Rattle.pkg_length.specs.declared.Refusal.{Refusal}
-use Rattle.pkg_length.specs.Refusal.{blockLimit}
-use Rattle.pkg_length.specs.Pkg.{pkgSaid, pkgLength}
-use Rattle.statement.proofs.Reaches.{tail, package-no, package-early, package-yes}
+use mathlib.Core.Path.{sym, _∙_}
+use Prim.Native.Nat.{_+_}
+use Rattle.statement.proofs.Packages.{package-no, package-early, package-yes}
 use borrow.Author.Needs.{needs}
 use native.Mathlib.Omega.{arith}
 use Rattle.statement.proofs.read.pkg.Statement.{statement}
@@ -14,50 +10,41 @@ use Rattle.statement.proofs.read.pkg.Tie as tie
 add-place-2 : tie.Need-add-place-2
 add-place-2 c =
     let a = c .before .before .before .before .before .before .before .before .args in
-    let t = drop (a .at) (a .part .now) in
-    let short : length t ≤ blockLimit = omega (arith, length-drop (a .at) (a .part .now)) in
     let z = c .before .before .before .w .given in
-    let n = c .before .numbered .ensures in
-    let k = package-no t (a .base + a .at) short _ _ (sym (ap pkgSaid (z .1)) ∙ c .before .before .before .before .before .pkg-length .ensures ∙ ap pkgLength (tail (a .part .now) (a .at))) in
-    omega (arith, k .inside, length-drop (a .at) (a .part .now), ap (λ (x : Refusal). x .1) n)
+    let w = c .before .before .before .before .before .pkg-length in
+    let k = package-no (a .part .now) (a .at) (omega arith) (w .result) (w .ensures) 0 (z .0 .0) (c .before .numbered .result) (z .1) (c .before .numbered .ensures) in
+    omega (arith, k .1)
 
 returns : tie.Need-returns
 returns c =
     let a = c .before .before .before .before .before .before .before .before .before .before .args in
-    let t = drop (a .at) (a .part .now) in
-    let short : length t ≤ blockLimit = omega (arith, length-drop (a .at) (a .part .now)) in
     let z = c .before .before .before .before .before .w .given in
-    let n = c .before .before .before .numbered .ensures in
-    let k = package-no t (a .base + a .at) short _ _ (sym (ap pkgSaid (z .1)) ∙ c .before .before .before .before .before .before .before .pkg-length .ensures ∙ ap pkgLength (tail (a .part .now) (a .at))) in
-    rw (ap (λ (x : Refusal). x .1) n) (rw (sym (ap (λ (x : Refusal). x .0) n) ∙ c .if1 .taken) at (k .is))
+    let w = c .before .before .before .before .before .before .before .pkg-length in
+    let n = c .before .before .before .numbered in
+    rw (c .if1 .taken) at (package-no (a .part .now) (a .at) (omega arith) (w .result) (w .ensures) (a .base + a .at) (z .0 .0) (n .result) (z .1) (n .ensures) .0)
 
 returns-2 : tie.Need-returns-2
 returns-2 c =
     let a = c .before .before .before .before .before .before .before .before .args in
-    let t = drop (a .at) (a .part .now) in
-    let short : length t ≤ blockLimit = omega (arith, length-drop (a .at) (a .part .now)) in
     let z = c .before .before .before .w2 .given in
-    let e = sym (ap pkgSaid (z .1)) ∙ c .before .before .before .before .before .pkg-length .ensures ∙ ap pkgLength (tail (a .part .now) (a .at)) in
-    package-early t (a .base + a .at) short (z .0 .0) (z .0 .1 .0) e (c .if2 .taken)
+    let w = c .before .before .before .before .before .pkg-length in
+    package-early (a .part .now) (a .at) (omega arith) (w .result) (w .ensures) (a .base + a .at) (z .0 .0) (z .0 .1 .0) (z .1) (c .if2 .taken)
 
 returns-3 : tie.Need-returns-3
 returns-3 c =
     let a = c .before .before .before .before .before .before .before .before .before .before .args in
-    let t = drop (a .at) (a .part .now) in
-    let short : length t ≤ blockLimit = omega (arith, length-drop (a .at) (a .part .now)) in
     let z = c .before .before .before .before .before .w .given in
-    let n = c .before .before .before .numbered .ensures in
-    let k = package-no t (a .base + a .at) short _ _ (sym (ap pkgSaid (z .1)) ∙ c .before .before .before .before .before .before .before .pkg-length .ensures ∙ ap pkgLength (tail (a .part .now) (a .at))) in
-    rw (ap (λ (x : Refusal). x .1) n) (rw (k .one-or-two (λ e. c .if1 .left (ap (λ (x : Refusal). x .0) n ∙ e))) at (k .is))
+    let w = c .before .before .before .before .before .before .before .pkg-length in
+    let n = c .before .before .before .numbered in
+    let k = package-no (a .part .now) (a .at) (omega arith) (w .result) (w .ensures) (a .base + a .at) (z .0 .0) (n .result) (z .1) (n .ensures) in
+    rw (k .2 (c .if1 .left)) at (k .0)
 
 returns-4 : tie.Need-returns-4
 returns-4 c =
     let a = c .before .before .before .before .before .before .before .before .args in
-    let t = drop (a .at) (a .part .now) in
-    let short : length t ≤ blockLimit = omega (arith, length-drop (a .at) (a .part .now)) in
     let z = c .before .before .before .w2 .given in
-    let e = sym (ap pkgSaid (z .1)) ∙ c .before .before .before .before .before .pkg-length .ensures ∙ ap pkgLength (tail (a .part .now) (a .at)) in
-    package-yes t (a .base + a .at) short (z .0 .0) (z .0 .1 .0) e (c .if2 .left)
+    let w = c .before .before .before .before .before .pkg-length in
+    package-yes (a .part .now) (a .at) (omega arith) (w .result) (w .ensures) (a .base + a .at) (z .0 .0) (z .0 .1 .0) (z .1) (c .if2 .left)
 
 pub pkg-spec : {M : Type 1} → statement M
 pkg-spec =

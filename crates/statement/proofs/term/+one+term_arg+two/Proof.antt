@@ -2,8 +2,8 @@
 use mathlib.Core.Path.{refl, sym, _∙_}
 use Prim.Native.Nat.{ℕ, _<_, _+_, _-_, _*_}
 use lib.ListN.{drop}
-use Rattle.statement.specs.Reading.{step}
-use Rattle.statement.specs.Refusal.{readBytes, readCell, readOne, readTwo, readTerm, oneOf, twoOf}
+use Rattle.statement.specs.Tree.{step}
+use Rattle.statement.specs.Reader.{readBytes, readCell, readOne, readTwo, readTerm, oneOf, twoOf}
 use Rattle.statement.proofs.Reaches as reaches
 use borrow.Author.Needs.{needs}
 use native.Mathlib.Omega.{arith}
@@ -44,8 +44,7 @@ abbrev term-arg-at : ℕ → In 1 term-arg-kinds.ps
 term-arg-at t = and 1 term-arg-kinds.ps (is 1 term-arg-kinds.ps μ-term-arg t) term-arg.Pre
 
 abbrev term-arg-below : ℕ → In 1 term-arg-kinds.ps
-term-arg-below t =
-    and 1 term-arg-kinds.ps (falls 1 term-arg-kinds.ps _<_ μ-term-arg t) term-arg.Pre
+term-arg-below t = and 1 term-arg-kinds.ps (falls 1 term-arg-kinds.ps _<_ μ-term-arg t) term-arg.Pre
 
 abbrev two-at : ℕ → In 1 two-kinds.ps
 two-at t = and 1 two-kinds.ps (is 1 two-kinds.ps μ-two t) two.Pre
@@ -61,9 +60,6 @@ term-arg-claims t = (term-op-reads.Asked, term-op-reads.Learnt, bytes-reads.Aske
 
 abbrev two-claims : ℕ → two-lts.Claims
 two-claims t = (term-arg-below t, term-arg.Post, one-below t, one.Post)
-
-one-term-arg-requires : (t : ℕ) → one-lts.Need-term-arg-requires (one-claims t) (one-at t) one.Post
-one-term-arg-requires t c κs = search needs
 
 one-dest-requires : (t : ℕ) → one-lts.Need-dest-requires (one-claims t) (one-at t) one.Post
 one-dest-requires t c κs =
@@ -83,91 +79,13 @@ one-returns-2 t c =
     let r = c .before .before .before .term-arg in
     reaches.one-dest (a .left) (a .base) (a .at) (a .part .now) (a .d) (r .result .1) (sym (reaches.goes-on (r .result) (c .before .if1 .left)) ∙ r .ensures) _ (c .dest .ensures)
 
-term-arg-add-t10 : (t : ℕ) → term-arg-lts.Need-add-t10 (term-arg-claims t) (term-arg-at t) term-arg.Post
-term-arg-add-t10 t c = search needs
-
 term-arg-returns : (t : ℕ) → term-arg-lts.Need-returns (term-arg-claims t) (term-arg-at t) term-arg.Post
 term-arg-returns t c =
     let a = c .before .before .args in reaches.term-deep (a .left) (a .base) (a .at) (a .part .now) (c .if1 .taken)
 
-term-arg-add-t12 : (t : ℕ) → term-arg-lts.Need-add-t12 (term-arg-claims t) (term-arg-at t) term-arg.Post
-term-arg-add-t12 t c = search needs
-
 term-arg-returns-2 : (t : ℕ) → term-arg-lts.Need-returns-2 (term-arg-claims t) (term-arg-at t) term-arg.Post
 term-arg-returns-2 t c =
     let a = c .before .before .before .args in reaches.term-end (a .left) (a .base) (a .at) (a .part .now) (omega arith) (c .if2 .taken)
-
-term-arg-shared-slice-read-term-op : (t : ℕ) → term-arg-lts.Need-shared-slice-read-term-op (term-arg-claims t) (term-arg-at t) term-arg.Post
-term-arg-shared-slice-read-term-op t c = search needs
-
-term-arg-term-op-requires : (t : ℕ) → term-arg-lts.Need-term-op-requires (term-arg-claims t) (term-arg-at t) term-arg.Post
-term-arg-term-op-requires t c κs = search needs
-
-term-arg-enum-told : (t : ℕ) → term-arg-lts.Need-enum-told (term-arg-claims t) (term-arg-at t) term-arg.Post
-term-arg-enum-told t c = search needs
-
-term-arg-add-t16 : (t : ℕ) → term-arg-lts.Need-add-t16 (term-arg-claims t) (term-arg-at t) term-arg.Post
-term-arg-add-t16 t c = search needs
-
-term-arg-enum-told-2 : (t : ℕ) → term-arg-lts.Need-enum-told-2 (term-arg-claims t) (term-arg-at t) term-arg.Post
-term-arg-enum-told-2 t c = search needs
-
-term-arg-add-t17 : (t : ℕ) → term-arg-lts.Need-add-t17 (term-arg-claims t) (term-arg-at t) term-arg.Post
-term-arg-add-t17 t c = search needs
-
-term-arg-enum-known-op : (t : ℕ) → term-arg-lts.Need-enum-known-op (term-arg-claims t) (term-arg-at t) term-arg.Post
-term-arg-enum-known-op t c = search needs
-
-term-arg-add-bytes : (t : ℕ) → term-arg-lts.Need-add-bytes (term-arg-claims t) (term-arg-at t) term-arg.Post
-term-arg-add-bytes t c = search needs
-
-term-arg-bytes-requires : (t : ℕ) → term-arg-lts.Need-bytes-requires (term-arg-claims t) (term-arg-at t) term-arg.Post
-term-arg-bytes-requires t c κs = search needs
-
-term-arg-enum-told-3 : (t : ℕ) → term-arg-lts.Need-enum-told-3 (term-arg-claims t) (term-arg-at t) term-arg.Post
-term-arg-enum-told-3 t c = search needs
-
-term-arg-add-t19 : (t : ℕ) → term-arg-lts.Need-add-t19 (term-arg-claims t) (term-arg-at t) term-arg.Post
-term-arg-add-t19 t c = search needs
-
-term-arg-enum-told-4 : (t : ℕ) → term-arg-lts.Need-enum-told-4 (term-arg-claims t) (term-arg-at t) term-arg.Post
-term-arg-enum-told-4 t c = search needs
-
-term-arg-add-cell : (t : ℕ) → term-arg-lts.Need-add-cell (term-arg-claims t) (term-arg-at t) term-arg.Post
-term-arg-add-cell t c = search needs
-
-term-arg-cell-requires : (t : ℕ) → term-arg-lts.Need-cell-requires (term-arg-claims t) (term-arg-at t) term-arg.Post
-term-arg-cell-requires t c κs = search needs
-
-term-arg-enum-known-op-2 : (t : ℕ) → term-arg-lts.Need-enum-known-op-2 (term-arg-claims t) (term-arg-at t) term-arg.Post
-term-arg-enum-known-op-2 t c = search needs
-
-term-arg-add-one : (t : ℕ) → term-arg-lts.Need-add-one (term-arg-claims t) (term-arg-at t) term-arg.Post
-term-arg-add-one t c = search needs
-
-term-arg-sub-one : (t : ℕ) → term-arg-lts.Need-sub-one (term-arg-claims t) (term-arg-at t) term-arg.Post
-term-arg-sub-one t c = search needs
-
-term-arg-one-requires : (t : ℕ) → term-arg-lts.Need-one-requires (term-arg-claims t) (term-arg-at t) term-arg.Post
-term-arg-one-requires t c κs = search needs
-
-term-arg-enum-known-op-3 : (t : ℕ) → term-arg-lts.Need-enum-known-op-3 (term-arg-claims t) (term-arg-at t) term-arg.Post
-term-arg-enum-known-op-3 t c = search needs
-
-term-arg-add-two : (t : ℕ) → term-arg-lts.Need-add-two (term-arg-claims t) (term-arg-at t) term-arg.Post
-term-arg-add-two t c = search needs
-
-term-arg-sub-two : (t : ℕ) → term-arg-lts.Need-sub-two (term-arg-claims t) (term-arg-at t) term-arg.Post
-term-arg-sub-two t c = search needs
-
-term-arg-two-requires : (t : ℕ) → term-arg-lts.Need-two-requires (term-arg-claims t) (term-arg-at t) term-arg.Post
-term-arg-two-requires t c κs = search needs
-
-term-arg-enum-told-5 : (t : ℕ) → term-arg-lts.Need-enum-told-5 (term-arg-claims t) (term-arg-at t) term-arg.Post
-term-arg-enum-told-5 t c = search needs
-
-term-arg-add-t25 : (t : ℕ) → term-arg-lts.Need-add-t25 (term-arg-claims t) (term-arg-at t) term-arg.Post
-term-arg-add-t25 t c = search needs
 
 term-arg-returns-3 : (t : ℕ) → term-arg-lts.Need-returns-3 (term-arg-claims t) (term-arg-at t) term-arg.Post
 term-arg-returns-3 t c =
@@ -241,9 +159,6 @@ term-arg-returns-10 t c =
     reaches.term-arm (a .left) (a .base) (a .at) (a .part .now) (omega (arith, c-if1 .left)) (c .before .before .before .before .if2 .left)
     (c-term-op .result) (c-term-op .ensures) _ _ (c .enum-told5 .given .1) refl
 
-two-term-arg-requires : (t : ℕ) → two-lts.Need-term-arg-requires (two-claims t) (two-at t) two.Post
-two-term-arg-requires t c κs = search needs
-
 two-one-requires : (t : ℕ) → two-lts.Need-one-requires (two-claims t) (two-at t) two.Post
 two-one-requires t c κs =
     let a = c .before .before .before .before .args in
@@ -263,53 +178,14 @@ two-returns-2 t c =
     reaches.two-one (a .left) (a .base) (a .at) (a .part .now) (a .d) (r .result .1) (sym (reaches.goes-on (r .result) (c .before .if1 .left)) ∙ r .ensures) _ (c .one .ensures)
 
 pub +one+term-arg+two-spec : {M : Type 1} → statement M
-+one+term-arg+two-spec = close μ-one μ-term-arg μ-two (λ t. one-lts.spec (one-claims t) (one-at t) one.Post
-    (one-term-arg-requires t)
-    (one-returns t)
-    (one-dest-requires t)
-    (one-returns-2 t))
-    (λ t. term-arg-lts.spec (term-arg-claims t) (term-arg-at t) term-arg.Post
-    (term-arg-add-t10 t)
-    (term-arg-returns t)
-    (term-arg-add-t12 t)
-    (term-arg-returns-2 t)
-    (term-arg-shared-slice-read-term-op t)
-    (term-arg-term-op-requires t)
-    (term-arg-enum-told t)
-    (term-arg-add-t16 t)
-    (term-arg-enum-told-2 t)
-    (term-arg-add-t17 t)
-    (term-arg-enum-known-op t)
-    (term-arg-add-bytes t)
-    (term-arg-bytes-requires t)
-    (term-arg-enum-told-3 t)
-    (term-arg-add-t19 t)
-    (term-arg-enum-told-4 t)
-    (term-arg-add-cell t)
-    (term-arg-cell-requires t)
-    (term-arg-enum-known-op-2 t)
-    (term-arg-add-one t)
-    (term-arg-sub-one t)
-    (term-arg-one-requires t)
-    (term-arg-enum-known-op-3 t)
-    (term-arg-add-two t)
-    (term-arg-sub-two t)
-    (term-arg-two-requires t)
-    (term-arg-enum-told-5 t)
-    (term-arg-add-t25 t)
-    (term-arg-returns-3 t)
-    (term-arg-returns-4 t)
-    (term-arg-returns-5 t)
-    (term-arg-returns-6 t)
-    (term-arg-returns-7 t)
-    (term-arg-returns-8 t)
-    (term-arg-returns-9 t)
-    (term-arg-returns-10 t))
-    λ t. two-lts.spec
-    (term-arg-below t, term-arg.Post, one-below t, one.Post)
-    (two-at t)
-    two.Post
-    (two-term-arg-requires t)
-    (two-returns t)
-    (two-one-requires t)
-    (two-returns-2 t)
++one+term-arg+two-spec =
+    close μ-one μ-term-arg μ-two
+    (λ t. one-lts.spec (one-claims t) (one-at t) one.Post (λ c κs. search needs) (one-returns t) (one-dest-requires t) (one-returns-2 t))
+    (λ t. term-arg-lts.spec (term-arg-claims t) (term-arg-at t) term-arg.Post (λ c. search needs) (term-arg-returns t) (λ c. search needs)
+    (term-arg-returns-2 t) (λ c. search needs) (λ c κs. search needs) (λ c. search needs) (λ c. search needs) (λ c. search needs) (λ c. search needs)
+    (λ c. search needs) (λ c. search needs) (λ c κs. search needs) (λ c. search needs) (λ c. search needs) (λ c. search needs) (λ c. search needs)
+    (λ c κs. search needs) (λ c. search needs) (λ c. search needs) (λ c. search needs) (λ c κs. search needs) (λ c. search needs) (λ c. search needs)
+    (λ c. search needs) (λ c κs. search needs) (λ c. search needs) (λ c. search needs) (term-arg-returns-3 t) (term-arg-returns-4 t) (term-arg-returns-5 t)
+    (term-arg-returns-6 t) (term-arg-returns-7 t) (term-arg-returns-8 t) (term-arg-returns-9 t) (term-arg-returns-10 t))
+    (λ t. two-lts.spec (term-arg-below t, term-arg.Post, one-below t, one.Post) (two-at t) two.Post (λ c κs. search needs) (two-returns t) (two-one-requires t)
+    (two-returns-2 t))

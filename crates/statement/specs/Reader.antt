@@ -7,7 +7,8 @@ use lib.Dec.{leb, eqb}
 use lib.ListN.{length, take, drop}
 use Rattle.pkg_length.specs.Refusal.{Answer, gives, refuses, andThen, endsEarly, blockLimit}
 use Rattle.pkg_length.specs.Little.{little}
-use Rattle.pkg_length.specs.Pkg.{Raw, spelt, fromRaw}
+use Rattle.pkg_length.specs.Pkg.{Raw}
+use Rattle.pkg_length.specs.Package.{packageIn}
 use Rattle.statement.specs.declared.opcode.OneOp.{OneOp}
 use Rattle.statement.specs.declared.opcode.TwoOp.{TwoOp}
 use Rattle.statement.specs.declared.opcode.Dest.{Dest}
@@ -17,7 +18,7 @@ use Rattle.statement.specs.declared.opcode.TermOp.the-variants.{Constant
 use Rattle.statement.specs.declared.opcode.StmtOp.{StmtOp}
 use Rattle.statement.specs.declared.opcode.StmtOp.the-variants.{Simple, Return, If, While, Expr}
 use Rattle.statement.specs.Opcode.{«NULL_NAME», «LOCAL0_OP», «DEF_ELSE_OP», isCell, termOp, stmtOp, expression}
-use Rattle.statement.specs.Reading.{Target, nowhere, to, Term, const, ones, cell, step, one, two, Stmt, plain, return, ifElse, while, expr, Stmts, nil, cons}
+use Rattle.statement.specs.Tree.{Target, nowhere, to, Term, const, ones, cell, step, one, two, Stmt, plain, return, ifElse, while, expr, Stmts, nil, cons}
 use Rattle.statement.specs.Grammar.{depthLimit}
 
 -- what was read, and how many bytes it took
@@ -106,13 +107,9 @@ abbrev pub moved : {A : Type 0} → ℕ → Answer A → Answer A
 moved p (gives a) = gives a
 moved p (refuses n q) = refuses n (p + q)
 
--- a package length at its lead byte: read, within the part, and not less than its own bytes
+-- a package's length at its lead byte
 unfoldable pub readPackage : ℕ → List ℕ → Answer Raw
-readPackage p s =
-    moved p
-    (andThen (spelt s) (λ w.
-    andThen (fromRaw (length s) (w .raw)) (λ l.
-    cond (leb (w .used) (w .raw)) (gives w) (endsEarly 0))))
+readPackage p s = moved p (packageIn s)
 
 -- ## Statements
 
