@@ -62,6 +62,10 @@ normalised limit cs ds f h =
     none : standing false [] ≡ true
     none = unfold standing in refl
 
+-- the normal form has no prefix
+pub normal-plain : (limit : ℕ) (cs ds : List Component) → fine true cs ≡ true → normal limit cs ≡ gives ds → isNormal ds ≡ true
+normal-plain limit cs ds f h = normalised limit cs ds f h .plain
+
 -- a path with no prefix is its own normal form
 walk-plain : (cs done : List Component) → isNormal cs ≡ true → walk (gives done) cs ≡ gives (reverseAux cs done)
 unfolding walk step
@@ -76,7 +80,7 @@ normal-same limit cs h l = sym (normal-by limit cs (walk-plain cs [] h)) ∙ ap 
 
 -- normalising is idempotent
 pub normal-again : (limit : ℕ) (cs ds : List Component) → fine true cs ≡ true → normal limit cs ≡ gives ds → normal limit ds ≡ gives ds
-normal-again limit cs ds f h = let n = normalised limit cs ds f h in normal-same limit ds (n .plain) (n .room)
+normal-again limit cs ds f h = normal-same limit ds (normal-plain limit cs ds f h) (normalised limit cs ds f h .room)
 
 -- a path within the limit is never refused with 9: a walk adds one component at most for each, or ends with 10
 Ends : ℕ → Answer (List Component) → Type 0
@@ -121,9 +125,6 @@ pub record Kept (limit : ℕ) (cs : List Component) : Type 0 where
 
 pub normal-kept : (limit : ℕ) (cs ds : List Component) → fine true cs ≡ true → absolute cs ≡ true → normal limit cs ≡ gives ds → Kept limit ds
 normal-kept limit cs ds f a h = let n = normalised limit cs ds f h in record { rooted = n .first ∙ a; plain = n .plain; good = n .good; room = n .room }
-
-pub kept-same : (limit : ℕ) (cs : List Component) → Kept limit cs → normal limit cs ≡ gives cs
-kept-same limit cs k = normal-same limit cs (k .plain) (k .room)
 
 -- the root, and then segments alone
 pub kept-view : (limit : ℕ) (cs : List Component) → Kept limit cs → (es : List Component) × (cs ≡ root ∷ es) × (fine false es ≡ true) × (isNormal es ≡ true)
