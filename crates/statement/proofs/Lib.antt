@@ -7,6 +7,7 @@ mod Numbers
 mod Reaches
 pub mod Theorems
 pub mod Units
+pub mod Spellings
 mod Places
 mod Evals
 mod Runs
