@@ -5,6 +5,7 @@ use mathlib.Core.Path.{_≡_, refl, ap, sym, _∙_}
 use mathlib.Core.List.{List, [], _∷_}
 use Rattle.pkg_length.specs.Little.{little}
 use Rattle.pkg_length.specs.Pkg.{spelt, rawLength, fromRaw, pkgLength}
+use Rattle.pkg_length.specs.Package.{packageIn}
 use Rattle.pkg_length.specs.Refusal.{Answer, gives, refuses}
 use Rattle.name_object.specs.Component.{componentLimit}
 use Rattle.name_object.specs.Memory.{Told, told}
@@ -19,9 +20,9 @@ use Rattle.namespace.specs.declared.SearchAnswer.{SearchAnswer}
 use Rattle.namespace.specs.Search.{searchCall, searchSaid, searchTold}
 use Rattle.statement.specs.declared.CheckAnswer.{CheckAnswer}
 use Rattle.statement.specs.declared.RunAnswer.{RunAnswer}
-use Rattle.statement.specs.Reading.{Stmts}
+use Rattle.statement.specs.Tree.{Stmts}
 use Rattle.statement.specs.Opcode.{look, termOp, stmtOp}
-use Rattle.statement.specs.Refusal.{readOne, readTwo, readTerm, readPackage, readHead, readElse, readIf, listBy, readStmt, readBlock}
+use Rattle.statement.specs.Reader.{readOne, readTwo, readTerm, readPackage, readHead, readElse, readIf, listBy, readStmt, readBlock}
 use Rattle.statement.specs.Frames.{fresh}
 use Rattle.statement.specs.Meaning.{eval, turns, doStmt, doStmts}
 use Rattle.statement.specs.Promise.{Checked, checkSaid, HasRun, runSaid}
@@ -51,7 +52,7 @@ run-shows s budget r h = go (readBlock s) refl
 pub no-while-counts : (r : RunAnswer)
     → HasRun (0x70 ∷ 0x0A ∷ 0x03 ∷ 0x60 ∷ 0xA2 ∷ 0x04 ∷ 0x60 ∷ 0x76 ∷ 0x60 ∷ 0xA4 ∷ 0x60 ∷ []) fresh 100 r
     → runShown (runSaid r) ≡ gives (1 ∷ 0 ∷ 10 ∷ [])
-unfolding little spelt rawLength fromRaw pkgLength look termOp stmtOp readOne readTwo readTerm readPackage readHead readElse readIf listBy readStmt readBlock
+unfolding little spelt rawLength fromRaw pkgLength look termOp stmtOp readOne readTwo readTerm packageIn readPackage readHead readElse readIf listBy readStmt readBlock
     fresh eval turns doStmt doStmts
 no-while-counts r h = run-shows _ 100 r h
 

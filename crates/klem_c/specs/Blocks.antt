@@ -4,8 +4,8 @@ use mathlib.Core.Bool.{false}
 use mathlib.Core.List.{List, [], _∷_}
 use Prim.Native.Nat.{ℕ}
 use Rattle.pkg_length.specs.Refusal.{Answer, gives, refuses}
-use Rattle.statement.specs.Reading.{Stmts}
-use Rattle.statement.specs.Refusal.{readBlock}
+use Rattle.statement.specs.Tree.{Stmts}
+use Rattle.statement.specs.Reader.{readBlock}
 use Rattle.statement.specs.Promise.{Derives}
 use Rattle.statement.specs.Meaning.{width, Ended, finished, returned, breakOut, continueOut, Outcome, mean}
 use Rattle.klem_c.specs.Result.{resultWords, badSlice, filled, resultOf, sized, After, leaves, answers}

@@ -6,7 +6,7 @@ use Prim.Native.Nat.{ℕ, _≤_, _<_}
 use native.Mathlib.Omega.{arith}
 use lib.ListN.{length, take}
 use Rattle.pkg_length.specs.Refusal.{Answer, gives, refuses, andThen}
-use Rattle.statement.specs.Reader.{Read, read, reads, thenRead}
+use Rattle.statement.specs.Reader.{Read, took, reads, thenRead}
 
 -- a test by cases
 pub pick-by : {A : Type 0} (P : A → Type 0) (t : Bool) {x y : A} → (t ≡ true → P x) → (t ≡ false → P y) → P (cond t x y)
@@ -19,7 +19,7 @@ never e = absurd (let z : _≡_ {A = ℕ} 0 1 = cc in omega arith)
 -- the parts are handed on as variables, so that terms stay small
 pub then-by : {A B X : Type 0} (r : Answer (Read A)) (f : A → ℕ → Answer B) {b : B} → thenRead r f ≡ gives b →
     ((a : A) (k : ℕ) → r ≡ reads a k → f a k ≡ gives b → X) → X
-then-by (gives (read a k)) f e g = g a k refl e
+then-by (gives (took a k)) f e g = g a k refl e
 then-by (refuses n p) f e g = never e
 
 pub and-by : {A B X : Type 0} (r : Answer A) (f : A → Answer B) {b : B} → andThen r f ≡ gives b → ((a : A) → r ≡ gives a → f a ≡ gives b → X) → X

@@ -8,9 +8,10 @@ use lib.Dec.{leb}
 use lib.ListN.{length, take, drop, getD, length-drop}
 use lib.Seq.{drop-drop}
 use borrow.Author.Tests.{le-leb, leb-true, ne-eqb}
-use Rattle.pkg_length.specs.Refusal.{Answer, gives, refuses}
+use Rattle.pkg_length.specs.Refusal.{Answer, gives, refuses, blockLimit}
 use Rattle.pkg_length.specs.Little.{little}
 use Rattle.statement.specs.declared.frame.Frame.{Frame}
+use Rattle.statement.specs.declared.eval.Value.{Value}
 use Rattle.statement.specs.declared.eval.Value.the-variants.{Num, Missing}
 use Rattle.statement.specs.declared.opcode.StepOp.{StepOp}
 use Rattle.statement.specs.declared.opcode.OneOp.{OneOp}
@@ -20,25 +21,25 @@ use Rattle.statement.specs.declared.opcode.Dest.the-variants.{Nowhere, T
 use Rattle.statement.specs.declared.opcode.TermOp.{TermOp}
 use Rattle.statement.specs.declared.opcode.TermOp.the-variants.{Bytes, Cell, Step, One, Two}
 use Rattle.statement.specs.Opcode.{isCell, termOp}
-use Rattle.statement.specs.Tree.{Target, to, Term, const, ones, cell}
-use Rattle.statement.specs.Reader.{Read, read, reads, thenRead, readBytes, readCell, readDest, Operand, operand, Operands, before, readOne, readTwo, termBy, readTerm}
+use Rattle.statement.specs.Tree.{cell, Target, Term, const, read, step}
+use Rattle.statement.specs.Reader.{Read, took, reads, thenRead, readBytes, readPlace, readDest, Operand, operand, Operands, before, readOne, readTwo, termBy, readTerm}
 use Rattle.statement.specs.Frames.{wrote}
-use Rattle.statement.specs.Meaning.{width, allOnes, stepped, unary, binary, Ev, got, lacks, onValue, load, put, eval}
-use Rattle.statement.specs.Lent.{Accepts, Evaled, evAt, evaledBy, evOne, evTwo, evSecond, evPut}
+use Rattle.statement.specs.Meaning.{unary, binary, frames, Ran, ran, put, eval}
+use Rattle.statement.specs.Lent.{Accepts, TermReady, valueSaid, evAt, evaledBy, evOne, evTwo, evSecond, evPut}
 use Rattle.statement.proofs.Answers.{Takes, then-by, pick-ok}
 use Rattle.statement.proofs.Terms.{term-sound, cell-sound}
 use Rattle.statement.proofs.Reaches.{here, term-is-by}
 use Rattle.statement.proofs.Places.{dest-any, one-any, two-any}
 
 pub acc-ok : {A X : Type 0} (R : Answer (Read A)) → Accepts R → ((a : A) (k : ℕ) → R ≡ reads a k → X) → X
-acc-ok (gives (read a k)) h g = g a k refl
+acc-ok (gives (took a k)) h g = g a k refl
 acc-ok (refuses n p) h g = absurd h
 
 pub is-acc : {A : Type 0} {R : Answer A} {a : A} → R ≡ gives a → Accepts R
 is-acc e = rw e tt
 
 pub acc-then : {A B : Type 0} (R : Answer (Read A)) (f : A → ℕ → Answer B) → Accepts (thenRead R f) → Accepts R
-acc-then (gives (read a k)) f h = tt
+acc-then (gives (took a k)) f h = tt
 acc-then (refuses n p) f h = h
 
 pub acc-same : {A : Type 0} {R S : Answer A} → R ≡ S → Accepts R → Accepts S
@@ -46,55 +47,51 @@ acc-same {A} e h = subst (λ (z : Answer A). Accepts z) e h
 
 -- ## What an evaluation's answer says
 
-module _ {A : Type 0} (ev : A → Frame → Ev) (at : ℕ) (R : Answer (Read A)) (f : Frame) (v : Evaled) (e : v ≡ evaledBy ev at R f) (a : A) (k : ℕ) (er : R ≡ reads a k) where
-  v-is : v ≡ evAt (at + k) (ev a f)
-  v-is = e ∙ ap (λ (z : Answer (Read A)). evaledBy ev at z f) er
+module _ {A : Type 0} (ev : A → Frame → ℕ → Ran Frame ℕ) (at : ℕ) (R : Answer (Read A)) (f g : Frame) (v : Value)
+    (e : ran g 0 (valueSaid v) ≡ evaledBy ev at R f) (a : A) (k : ℕ) (er : R ≡ reads a k) where
+  v-is : (z : Value) → v ≡ z → ran g 0 (valueSaid z) ≡ evAt (at + k) (ev a f 0)
+  v-is z h = ap (λ (y : Value). ran g 0 (valueSaid y)) (sym h) ∙ e ∙ ap (λ (z : Answer (Read A)). evaledBy ev at z f) er
 
-  pub ev-num : (x b : ℕ) → v .out ≡ Num x b → (b ≡ at + k) × (ev a f ≡ got x (v .frame))
-  ev-num x b h = go (ev a f) refl (sym (ap (λ (z : Evaled). z .out) v-is) ∙ h)
+  pub ev-num : (x b : ℕ) → v ≡ Num x b → (b ≡ at + k) × (ev a f 0 ≡ ran g 0 (gives x))
+  ev-num x b h = go (ev a f 0) refl (v-is (Num x b) h)
     where
-      go : (w : Ev) → ev a f ≡ w → evAt (at + k) w .out ≡ Num x b → (b ≡ at + k) × (ev a f ≡ got x (v .frame))
-      go (got n g) q z =
-          let q₁ : n ≡ x = cc in
-          let q₂ : at + k ≡ b = cc in
-          (sym q₂, q ∙ ap (λ (m : ℕ). got m g) q₁ ∙ ap (got x) (sym (ap (λ (z : Evaled). z .frame) (v-is ∙ ap (evAt (at + k)) q))))
-      go (lacks c g) q z = absurd (let z : _≡_ {A = ℕ} 0 1 = cc in omega arith)
+      go : (w : Ran Frame ℕ) → ev a f 0 ≡ w → ran g 0 (gives (took x b)) ≡ evAt (at + k) w → (b ≡ at + k) × (ev a f 0 ≡ ran g 0 (gives x))
+      go (ran h u (gives n)) q z = (let y : b ≡ at + k = cc in y, let y₁ : g ≡ h = cc in let y₂ : 0 ≡ u = cc in let y₃ : x ≡ n = cc in rw (q, y₁, y₃, ← y₂))
+      go (ran h u (refuses n p)) q z = absurd (let z : _≡_ {A = ℕ} 0 1 = cc in omega arith)
 
-  pub ev-missing : (c : ℕ) → v .out ≡ Missing c → ev a f ≡ lacks c (v .frame)
-  ev-missing c h = go (ev a f) refl (sym (ap (λ (z : Evaled). z .out) v-is) ∙ h)
+  pub ev-missing : (c : ℕ) → v ≡ Missing c → ev a f 0 ≡ ran g 0 (refuses 23 c)
+  ev-missing c h = go (ev a f 0) refl (v-is (Missing c) h)
     where
-      go : (w : Ev) → ev a f ≡ w → evAt (at + k) w .out ≡ Missing c → ev a f ≡ lacks c (v .frame)
-      go (got n g) q z = absurd (let z : _≡_ {A = ℕ} 0 1 = cc in omega arith)
-      go (lacks d g) q z =
-          let q₁ : d ≡ c = cc in
-          q ∙ ap (λ (m : ℕ). lacks m g) q₁ ∙ ap (lacks c) (sym (ap (λ (z : Evaled). z .frame) (v-is ∙ ap (evAt (at + k)) q)))
+      go : (w : Ran Frame ℕ) → ev a f 0 ≡ w → ran g 0 (refuses 23 c) ≡ evAt (at + k) w → ev a f 0 ≡ ran g 0 (refuses 23 c)
+      go (ran h u (gives n)) q z = absurd (let z : _≡_ {A = ℕ} 0 1 = cc in omega arith)
+      go (ran h u (refuses n p)) q z = let y₁ : g ≡ h = cc in let y₂ : 0 ≡ u = cc in let y₃ : 23 ≡ n = cc in let y₄ : c ≡ p = cc in rw (q, y₁, y₄, ← y₂, ← y₃)
 
 -- ## Cells and destinations
 
 -- a written cell that was read
-module _ (p at : ℕ) (s : List ℕ) (acc : Accepts (readCell p (drop at s))) where
+module _ (p at : ℕ) (s : List ℕ) (acc : Accepts (readPlace p (drop at s))) where
   pub cell-inside : at < length s
   cell-inside =
-      acc-ok (readCell p (drop at s)) acc λ c k e.
+      acc-ok (readPlace p (drop at s)) acc λ c k e.
       let t : Takes _ (drop at s) k = cell-sound p (drop at s) c k e in
       omega (arith, t .some, t .fits, length-drop at s)
 
   pub cell-byte : isCell (getD s at 0) ≡ true
   cell-byte =
-      acc-ok (readCell p (drop at s)) acc λ c k e.
-      let f : readCell p (getD s at 0 ∷ drop (at + 1) s) ≡ reads c k = rw (here s at cell-inside) at e in
+      acc-ok (readPlace p (drop at s)) acc λ c k e.
+      let f : readPlace p (getD s at 0 ∷ drop (at + 1) s) ≡ reads c k = rw (here s at cell-inside) at e in
       pick-ok (isCell (getD s at 0)) _ 3 p f .0
 
-  pub cell-number : readCell p (drop at s) ≡ reads (getD s at 0 - 0x60) 1
+  pub cell-number : readPlace p (drop at s) ≡ reads (cell (getD s at 0 - 0x60)) 1
   cell-number = rw (here s at cell-inside, cell-byte)
 
 module _ (at : ℕ) (s : List ℕ) (n : ℕ) (f : Frame) where
-  pub store-none : record { frame = f; out = Num n at } ≡ evaledBy (evPut n) at (readDest Nowhere 0 (drop at s)) f
-  store-none = let q : at ≡ at + 0 = omega arith in ap (λ (k : ℕ). record { frame = f; out = Num n k }) q
+  pub store-none : ran f 0 (gives (took n at)) ≡ evaledBy (evPut n) at (readDest Nowhere 0 (drop at s)) f
+  store-none = let q : at ≡ at + 0 = omega arith in ap (λ (k : ℕ). ran f 0 (gives (took n k))) q
 
   pub store-cell : (g : Frame) (c : ℕ) → Accepts (readDest ToCell 0 (drop at s)) → c ≡ getD s at 0 - 0x60 → g ≡ wrote f c n →
-      record { frame = g; out = Num n (at + 1) } ≡ evaledBy (evPut n) at (readDest ToCell 0 (drop at s)) f
-  store-cell g c acc e h = rw (cell-number 0 at s (acc-then (readCell 0 (drop at s)) _ acc), h, e)
+      ran g 0 (gives (took n (at + 1))) ≡ evaledBy (evPut n) at (readDest ToCell 0 (drop at s)) f
+  store-cell g c acc e h = rw (cell-number 0 at s (acc-then (readPlace 0 (drop at s)) _ acc), h, e)
 
   target-is : Accepts (readDest ToTarget 0 (drop at s)) → at < length s
   target-is acc = go (drop at s) (length-drop at s) acc
@@ -104,22 +101,22 @@ module _ (at : ℕ) (s : List ℕ) (n : ℕ) (f : Frame) where
       go (b ∷ d) e h = omega arith
 
   pub store-null : Accepts (readDest ToTarget 0 (drop at s)) → getD s at 0 ≡ 0 →
-      record { frame = f; out = Num n (at + 1) } ≡ evaledBy (evPut n) at (readDest ToTarget 0 (drop at s)) f
+      ran f 0 (gives (took n (at + 1))) ≡ evaledBy (evPut n) at (readDest ToTarget 0 (drop at s)) f
   store-null acc e = rw (here s at (target-is acc), e)
 
   module _ (acc : Accepts (readDest ToTarget 0 (drop at s))) (ne : getD s at 0 ≡ 0 → ⊥) where
     target-eq : readDest ToTarget 0 (drop at s) ≡ readDest ToCell 0 (drop at s)
     target-eq = rw (here s at (target-is acc), ne-eqb (getD s at 0) 0 ne)
 
-    pub target-acc : Accepts (readCell 0 (drop at s))
-    target-acc = acc-then (readCell 0 (drop at s)) _ (acc-same target-eq acc)
+    pub target-acc : Accepts (readPlace 0 (drop at s))
+    target-acc = acc-then (readPlace 0 (drop at s)) _ (acc-same target-eq acc)
 
     pub store-target : (g : Frame) (c : ℕ) → c ≡ getD s at 0 - 0x60 → g ≡ wrote f c n →
-        record { frame = g; out = Num n (at + 1) } ≡ evaledBy (evPut n) at (readDest ToTarget 0 (drop at s)) f
+        ran g 0 (gives (took n (at + 1))) ≡ evaledBy (evPut n) at (readDest ToTarget 0 (drop at s)) f
     store-target g c e h = store-cell g c (acc-same target-eq acc) e h ∙ ap (λ (R : Answer (Read Target)). evaledBy (evPut n) at R f) (sym target-eq)
 
-pub dest-cell-acc : (at : ℕ) (s : List ℕ) → Accepts (readDest ToCell 0 (drop at s)) → Accepts (readCell 0 (drop at s))
-dest-cell-acc at s acc = acc-then (readCell 0 (drop at s)) _ acc
+pub dest-cell-acc : (at : ℕ) (s : List ℕ) → Accepts (readDest ToCell 0 (drop at s)) → Accepts (readPlace 0 (drop at s))
+dest-cell-acc at s acc = acc-then (readPlace 0 (drop at s)) _ acc
 
 pub target-inside : (at : ℕ) (s : List ℕ) → Accepts (readDest ToTarget 0 (drop at s)) → at < length s
 target-inside at s acc = target-is at s 0 (record { set = []; val = [] }) acc
@@ -166,73 +163,69 @@ module _ (l at : ℕ) (s : List ℕ) (d : Dest) where
   pub two-term-acc : Accepts the-two → Accepts the-term
   two-term-acc acc = two-open acc λ t k o j e₁ le e₂ e₃. is-acc e₁
 
-  module _ (f : Frame) (v : Evaled) (ev : v ≡ evaledBy (eval width) at the-term f) where
+  module _ (w : ℕ) (f g : Frame) (v : Value) (ev : ran g 0 (valueSaid v) ≡ evaledBy (eval frames w) at the-term f) where
     module _ (acc : Accepts the-one) where
-      pub one-missing : (o : OneOp) (c : ℕ) → v .out ≡ Missing c → record { frame = v .frame; out = Missing c } ≡ evaledBy (evOne o) at the-one f
+      pub one-missing : (o : OneOp) (c : ℕ) → v ≡ Missing c → ran g 0 (refuses 23 c) ≡ evaledBy (evOne w o) at the-one f
       unfolding eval
-      one-missing o c h =
-          one-open acc λ t k x j e₁ le e₂ e₃.
-          rw (e₃, ev-missing (eval width) at the-term f v ev t k e₁ c h)
+      one-missing o c h = one-open acc λ t k x j e₁ le e₂ e₃. rw (e₃, ev-missing (eval frames w) at the-term f g v ev t k e₁ c h)
 
-      pub second-missing : (o : TwoOp) (n c : ℕ) → v .out ≡ Missing c → record { frame = v .frame; out = Missing c } ≡ evaledBy (evSecond o n) at the-one f
-      second-missing o n c h =
-          one-open acc λ t k x j e₁ le e₂ e₃.
-          rw (e₃, ev-missing (eval width) at the-term f v ev t k e₁ c h)
+      pub second-missing : (o : TwoOp) (n c : ℕ) → v ≡ Missing c → ran g 0 (refuses 23 c) ≡ evaledBy (evSecond w o n) at the-one f
+      second-missing o n c h = one-open acc λ t k x j e₁ le e₂ e₃. rw (e₃, ev-missing (eval frames w) at the-term f g v ev t k e₁ c h)
 
-      module _ (n m : ℕ) (h : v .out ≡ Num n m) where
+      module _ (n m : ℕ) (h : v ≡ Num n m) where
         pub one-dest-acc : (m ≤ length s) × Accepts (readDest d 0 (drop m s))
         one-dest-acc =
             one-open acc λ t k x j e₁ le e₂ e₃.
-            let y = ev-num (eval width) at the-term f v ev t k e₁ n m h in
+            let y = ev-num (eval frames w) at the-term f g v ev t k e₁ n m h in
             rw (y .0) (le, is-acc e₂)
 
-        module _ (i : ℕ) (z : Evaled) (ez : z ≡ evaledBy (evPut i) m (readDest d 0 (drop m s)) (v .frame)) where
-          stored : (k : ℕ) (x : Target) (j : ℕ) → m ≡ at + k → readDest d 0 (drop (at + k) s) ≡ reads x j → z ≡ evAt (at + (k + j)) (put x i (v .frame))
+        module _ (i : ℕ) (z : Ran Frame (Read ℕ)) (ez : z ≡ evaledBy (evPut i) m (readDest d 0 (drop m s)) g) where
+          stored : (k : ℕ) (x : Target) (j : ℕ) → m ≡ at + k → readDest d 0 (drop (at + k) s) ≡ reads x j → z ≡ evAt (at + (k + j)) (put frames x i g 0)
           stored k x j q e =
               let r : at + k + j ≡ at + (k + j) = omega arith in
-              ez ∙ ap (λ (b : ℕ). evaledBy (evPut i) b (readDest d 0 (drop b s)) (v .frame)) q ∙ rw (e, r)
+              ez ∙ ap (λ (b : ℕ). evaledBy (evPut i) b (readDest d 0 (drop b s)) g) q ∙ rw (e, r)
 
-          pub one-stored : (o : OneOp) → i ≡ unary width o n → z ≡ evaledBy (evOne o) at the-one f
+          pub one-stored : (o : OneOp) → i ≡ unary w o n → z ≡ evaledBy (evOne w o) at the-one f
           unfolding eval
           one-stored o ei =
               one-open acc λ t k x j e₁ le e₂ e₃.
-              let y = ev-num (eval width) at the-term f v ev t k e₁ n m h in
+              let y = ev-num (eval frames w) at the-term f g v ev t k e₁ n m h in
               rw (e₃, y .1) (stored k x j (y .0) e₂ ∙ rw ei)
 
-          pub second-stored : (o : TwoOp) (a : ℕ) → i ≡ binary width o a n → z ≡ evaledBy (evSecond o a) at the-one f
+          pub second-stored : (o : TwoOp) (a : ℕ) → i ≡ binary w o a n → z ≡ evaledBy (evSecond w o a) at the-one f
           second-stored o a ei =
               one-open acc λ t k x j e₁ le e₂ e₃.
-              let y = ev-num (eval width) at the-term f v ev t k e₁ n m h in
+              let y = ev-num (eval frames w) at the-term f g v ev t k e₁ n m h in
               rw (e₃, y .1) (stored k x j (y .0) e₂ ∙ rw ei)
 
     module _ (acc : Accepts the-two) where
-      two-lacks : (o : TwoOp) (t : Term) (x : Operand) (c : ℕ) (g : Frame) → eval width t f ≡ lacks c g → evTwo o (before t x) f ≡ lacks c g
+      two-lacks : (o : TwoOp) (t : Term) (x : Operand) (c : ℕ) → eval frames w t f 0 ≡ ran g 0 (refuses 23 c) → evTwo w o (before t x) f 0 ≡ ran g 0 (refuses 23 c)
       unfolding eval
-      two-lacks o t (operand u x) c g e = rw e
+      two-lacks o t (operand u x) c e = rw e
 
-      two-goes : (o : TwoOp) (t : Term) (x : Operand) (n : ℕ) (g : Frame) → eval width t f ≡ got n g → evTwo o (before t x) f ≡ evSecond o n x g
+      two-goes : (o : TwoOp) (t : Term) (x : Operand) (n : ℕ) → eval frames w t f 0 ≡ ran g 0 (gives n) → evTwo w o (before t x) f 0 ≡ evSecond w o n x g 0
       unfolding eval
-      two-goes o t (operand u x) n g e = rw e
+      two-goes o t (operand u x) n e = rw e
 
-      pub two-missing : (o : TwoOp) (c : ℕ) → v .out ≡ Missing c → record { frame = v .frame; out = Missing c } ≡ evaledBy (evTwo o) at the-two f
+      pub two-missing : (o : TwoOp) (c : ℕ) → v ≡ Missing c → ran g 0 (refuses 23 c) ≡ evaledBy (evTwo w o) at the-two f
       two-missing o c h =
           two-open acc λ t k x j e₁ le e₂ e₃.
-          rw (e₃, two-lacks o t x c (v .frame) (ev-missing (eval width) at the-term f v ev t k e₁ c h))
+          rw (e₃, two-lacks o t x c (ev-missing (eval frames w) at the-term f g v ev t k e₁ c h))
 
-      module _ (n m : ℕ) (h : v .out ≡ Num n m) where
+      module _ (n m : ℕ) (h : v ≡ Num n m) where
         pub two-second-acc : Accepts (readOne (readTerm l) d 0 (drop m s))
         two-second-acc =
             two-open acc λ t k x j e₁ le e₂ e₃.
-            let y = ev-num (eval width) at the-term f v ev t k e₁ n m h in
+            let y = ev-num (eval frames w) at the-term f g v ev t k e₁ n m h in
             rw (y .0) (is-acc e₂)
 
-        pub two-second : (o : TwoOp) (z : Evaled) → z ≡ evaledBy (evSecond o n) m (readOne (readTerm l) d 0 (drop m s)) (v .frame) → z ≡ evaledBy (evTwo o) at the-two f
+        pub two-second : (o : TwoOp) (z : Ran Frame (Read ℕ)) → z ≡ evaledBy (evSecond w o n) m (readOne (readTerm l) d 0 (drop m s)) g → z ≡ evaledBy (evTwo w o) at the-two f
         two-second o z ez =
             two-open acc λ t k x j e₁ le e₂ e₃.
-            let y = ev-num (eval width) at the-term f v ev t k e₁ n m h in
+            let y = ev-num (eval frames w) at the-term f g v ev t k e₁ n m h in
             let r : at + k + j ≡ at + (k + j) = omega arith in
-            rw (e₃, two-goes o t x n (v .frame) (y .1))
-            (ez ∙ ap (λ (b : ℕ). evaledBy (evSecond o n) b (readOne (readTerm l) d 0 (drop b s)) (v .frame)) (y .0) ∙ rw (e₂, r))
+            rw (e₃, two-goes o t x n (y .1))
+            (ez ∙ ap (λ (b : ℕ). evaledBy (evSecond w o n) b (readOne (readTerm l) d 0 (drop b s)) g) (y .0) ∙ rw (e₂, r))
 
 -- ## A term by its opcode
 
@@ -261,20 +254,16 @@ module _ (l at : ℕ) (s : List ℕ) (acc : Accepts (readTerm l 0 (drop at s))) 
     pub acc-by : Accepts reading
     acc-by = acc-same same-reading acc
 
-    pub eval-arm : (f : Frame) (x : Evaled) → x ≡ evaledBy (eval width) at reading f → x ≡ evaledBy (eval width) at (readTerm l 0 (drop at s)) f
-    eval-arm f x h = h ∙ ap (λ (R : Answer (Read Term)). evaledBy (eval width) at R f) (sym same-reading)
+    pub eval-arm : (w : ℕ) (f : Frame) (x : Ran Frame (Read ℕ)) → x ≡ evaledBy (eval frames w) at reading f → x ≡ evaledBy (eval frames w) at (readTerm l 0 (drop at s)) f
+    eval-arm w f x h = h ∙ ap (λ (R : Answer (Read Term)). evaledBy (eval frames w) at R f) (sym same-reading)
 
-pub constant-val : (at n : ℕ) (f : Frame) → n < 2 ^ 64 → record { frame = f; out = Num n (at + 1) } ≡ evaledBy (eval width) at (reads (const n) 1) f
+pub constant-val : (w at n m : ℕ) (f : Frame) → m ≡ n % 2 ^ w → ran f 0 (gives (took m (at + 1))) ≡ evaledBy (eval frames w) at (reads (const n) 1) f
 unfolding eval
-constant-val at n f h = let q : n ≡ n % 2 ^ 64 = omega arith in ap (λ (k : ℕ). record { frame = f; out = Num k (at + 1) }) q
+constant-val w at n m f e = rw e
 
-pub ones-val : (at n : ℕ) (f : Frame) → n ≡ allOnes width → record { frame = f; out = Num n (at + 1) } ≡ evaledBy (eval width) at (reads ones 1) f
-unfolding eval
-ones-val at n f e = rw e
-
-pub cell-val : (at c : ℕ) (f : Frame) (x : Evaled) → x ≡ evAt (at + 1) (load f c) → x ≡ evaledBy (eval width) at (reads (cell c) 1) f
-unfolding eval
-cell-val at c f x e = e
+-- what was read has a place within the part, and a depth
+pub term-ready : (l at : ℕ) (s : List ℕ) → length s ≤ blockLimit → Accepts (readTerm l 0 (drop at s)) → TermReady s at l
+term-ready l at s h acc = record { short = h; inside = in-part l at s acc; deep = left-some l at s acc; reads = acc }
 
 -- constants of every width
 module _ (term : ℕ → List ℕ → Answer (Read Term)) (at n : ℕ) (s : List ℕ) (acc : Accepts (termBy term 0 (drop (at + 1) s) (Bytes n))) where
@@ -286,22 +275,20 @@ module _ (term : ℕ → List ℕ → Answer (Read Term)) (at n : ℕ) (s : List
   pub bytes-in : at < length s → at + 1 + n ≤ length s
   bytes-in lt = omega (arith, bytes-fit, length-drop (at + 1) s)
 
-  pub bytes-val : (m : ℕ) (f : Frame) → m ≡ little (take n (drop (at + 1) s)) → m < 2 ^ 64 →
-      record { frame = f; out = Num m (at + 1 + n) } ≡ evaledBy (eval width) at (termBy term 0 (drop (at + 1) s) (Bytes n)) f
+  pub bytes-val : (w m k : ℕ) (f : Frame) → m ≡ little (take n (drop (at + 1) s)) → k ≡ m % 2 ^ w →
+      ran f 0 (gives (took k (at + 1 + n))) ≡ evaledBy (eval frames w) at (termBy term 0 (drop (at + 1) s) (Bytes n)) f
   unfolding eval
-  bytes-val m f e lt =
-      let q : m ≡ m % 2 ^ 64 = omega arith in
+  bytes-val w m k f e q =
       let r : at + 1 + n ≡ at + suc n = omega arith in
-      rw (le-leb n (length (drop (at + 1) s)) bytes-fit, ← e, ← q, r)
+      rw (le-leb n (length (drop (at + 1) s)) bytes-fit, ← e, q, r)
 
 module _ (term : ℕ → List ℕ → Answer (Read Term)) (at : ℕ) (s : List ℕ) (o : StepOp) (acc : Accepts (termBy term 0 (drop (at + 1) s) (Step o))) where
-  pub step-acc : Accepts (readCell 1 (drop (at + 1) s))
-  step-acc = acc-then (readCell 1 (drop (at + 1) s)) _ acc
+  pub step-acc : Accepts (readPlace 1 (drop (at + 1) s))
+  step-acc = acc-then (readPlace 1 (drop (at + 1) s)) _ acc
 
-  pub step-val : (f : Frame) (c : ℕ) (x : Evaled) → c ≡ getD s (at + 1) 0 - 0x60 →
-      x ≡ evAt (at + 2) (onValue (load f c) (λ n g. put (to c) (stepped width o n) g)) → x ≡ evaledBy (eval width) at (termBy term 0 (drop (at + 1) s) (Step o)) f
-  unfolding eval
-  step-val f c x e h = rw (cell-number 1 (at + 1) s step-acc, ← e) h
+  pub step-val : (w : ℕ) (f : Frame) (c : ℕ) (x : Ran Frame (Read ℕ)) → c ≡ getD s (at + 1) 0 - 0x60 →
+      x ≡ evAt (at + 2) (eval frames w (step o (cell c)) f 0) → x ≡ evaledBy (eval frames w) at (termBy term 0 (drop (at + 1) s) (Step o)) f
+  step-val w f c x e h = rw (cell-number 1 (at + 1) s step-acc, ← e) h
 
 -- an operator's answer, from the byte behind its opcode
 module _ (l at : ℕ) (s : List ℕ) (d : Dest) where
@@ -310,9 +297,9 @@ module _ (l at : ℕ) (s : List ℕ) (d : Dest) where
       acc-ok (readOne (readTerm l) d 1 (drop (at + 1) s)) (acc-then (readOne (readTerm l) d 1 (drop (at + 1) s)) _ acc) λ x k e.
       is-acc (one-any l d 1 0 (drop (at + 1) s) x k e)
 
-  pub operand-val : (o : OneOp) (f : Frame) (z : Evaled) → Accepts (readOne (readTerm l) d 0 (drop (at + 1) s)) →
-      z ≡ evaledBy (evOne o) (at + 1) (readOne (readTerm l) d 0 (drop (at + 1) s)) f → z ≡ evaledBy (eval width) at (termBy (readTerm l) 0 (drop (at + 1) s) (One o d)) f
-  operand-val o f z acc ez =
+  pub operand-val : (w : ℕ) (o : OneOp) (f : Frame) (z : Ran Frame (Read ℕ)) → Accepts (readOne (readTerm l) d 0 (drop (at + 1) s)) →
+      z ≡ evaledBy (evOne w o) (at + 1) (readOne (readTerm l) d 0 (drop (at + 1) s)) f → z ≡ evaledBy (eval frames w) at (termBy (readTerm l) 0 (drop (at + 1) s) (One o d)) f
+  operand-val w o f z acc ez =
       acc-ok (readOne (readTerm l) d 0 (drop (at + 1) s)) acc λ x k e.
       let q : at + 1 + k ≡ at + suc k = omega arith in
       rw (one-any l d 0 1 (drop (at + 1) s) x k e) (ez ∙ rw (e, q))
@@ -322,16 +309,16 @@ module _ (l at : ℕ) (s : List ℕ) (d : Dest) where
       acc-ok (readTwo (readTerm l) d 1 (drop (at + 1) s)) (acc-then (readTwo (readTerm l) d 1 (drop (at + 1) s)) _ acc) λ x k e.
       is-acc (two-any l d 1 0 (drop (at + 1) s) x k e)
 
-  pub operands-val : (o : TwoOp) (f : Frame) (z : Evaled) → Accepts (readTwo (readTerm l) d 0 (drop (at + 1) s)) →
-      z ≡ evaledBy (evTwo o) (at + 1) (readTwo (readTerm l) d 0 (drop (at + 1) s)) f → z ≡ evaledBy (eval width) at (termBy (readTerm l) 0 (drop (at + 1) s) (Two o d)) f
-  operands-val o f z acc ez =
+  pub operands-val : (w : ℕ) (o : TwoOp) (f : Frame) (z : Ran Frame (Read ℕ)) → Accepts (readTwo (readTerm l) d 0 (drop (at + 1) s)) →
+      z ≡ evaledBy (evTwo w o) (at + 1) (readTwo (readTerm l) d 0 (drop (at + 1) s)) f → z ≡ evaledBy (eval frames w) at (termBy (readTerm l) 0 (drop (at + 1) s) (Two o d)) f
+  operands-val w o f z acc ez =
       acc-ok (readTwo (readTerm l) d 0 (drop (at + 1) s)) acc λ x k e.
       let q : at + 1 + k ≡ at + suc k = omega arith in
       rw (two-any l d 0 1 (drop (at + 1) s) x k e) (ez ∙ rw (e, q))
 
 -- a cell is read at once
-pub cell-at-once : (l at : ℕ) (s : List ℕ) → Accepts (readTerm l 0 (drop at s)) → isCell (getD s at 0) ≡ true →
-    (c : ℕ) → c ≡ getD s at 0 - 0x60 → (f : Frame) (x : Evaled) → x ≡ evAt (at + 1) (load f c) → x ≡ evaledBy (eval width) at (readTerm l 0 (drop at s)) f
+pub cell-at-once : (w l at : ℕ) (s : List ℕ) → Accepts (readTerm l 0 (drop at s)) → isCell (getD s at 0) ≡ true →
+    (c : ℕ) → c ≡ getD s at 0 - 0x60 → (f : Frame) (x : Ran Frame (Read ℕ)) → x ≡ evAt (at + 1) (eval frames w (read (cell c)) f 0) →
+    x ≡ evaledBy (eval frames w) at (readTerm l 0 (drop at s)) f
 unfolding termOp
-cell-at-once l at s acc b c e f x h =
-    eval-arm l at s acc (termOp (getD s at 0)) (Cell (getD s at 0 - 0x60)) refl (rw b) f x (cell-val at (getD s at 0 - 0x60) f x (rw e at h))
+cell-at-once w l at s acc b c e f x h = eval-arm l at s acc (termOp (getD s at 0)) (Cell (getD s at 0 - 0x60)) refl (rw b) w f x (rw e at h)

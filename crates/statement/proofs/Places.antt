@@ -1,30 +1,28 @@
 -- What is read does not depend on the place that it is read at: a run reads at place 0, what the check read where it stands.
-use mathlib.Core.Path.{_≡_, sym, _∙_}
+use mathlib.Core.Path.{_≡_}
 use mathlib.Core.Bool.{Bool, true, false, cond}
 use mathlib.Core.List.{List, [], _∷_, _++_}
 use Prim.Native.Nat.{ℕ, suc, _+_, _-_}
 use lib.Dec.{leb, eqb}
 use lib.ListN.{length, take, drop, take-append-drop}
 use lib.Seq.{length-take-le}
-use Rattle.pkg_length.specs.Refusal.{Answer, gives, refuses, andThen}
-use Rattle.pkg_length.specs.Pkg.{Raw, spelt}
 use Rattle.statement.specs.declared.opcode.Dest.{Dest}
 use Rattle.statement.specs.declared.opcode.Dest.the-variants.{Nowhere, ToCell, ToTarget}
 use Rattle.statement.specs.Opcode.{isCell}
-use Rattle.statement.specs.Tree.{Target, nowhere, to, Term, Stmt, Stmts}
+use Rattle.statement.specs.Tree.{Place, Target, nowhere, to, Term, Stmt, Stmts}
 use Rattle.statement.specs.Grammar.{depthLimit}
-use Rattle.statement.specs.Reader.{reads, thenRead, readCell, readDest, Operand, Operands, readOne, readTwo, readTerm, moved, readPackage, Head, readHead, elseBy, readElse, readIf, readList}
+use Rattle.statement.specs.Reader.{reads, thenRead, readPlace, readDest, Operand, Operands, readOne, readTwo, readTerm, readPackage, Head, readHead, elseBy, readElse, readIf, readList}
 use Rattle.statement.proofs.Answers.{never, then-by, and-by, pick-ok, Takes}
 use Rattle.statement.proofs.Terms.{term-sound, term-complete}
 use Rattle.statement.proofs.Statements.{lists-sound, lists-complete}
 use Rattle.statement.proofs.Packages.{package-any}
 
-pub cell-any : (p q : ℕ) (s : List ℕ) (c k : ℕ) → readCell p s ≡ reads c k → readCell q s ≡ reads c k
+pub cell-any : (p q : ℕ) (s : List ℕ) (c : Place) (k : ℕ) → readPlace p s ≡ reads c k → readPlace q s ≡ reads c k
 cell-any p q [] c k e = never e
 cell-any p q (b ∷ s) c k e = let (t, f) = pick-ok (isCell b) _ 3 p e in rw t f
 
-to-any : (p q : ℕ) (s : List ℕ) (x : Target) (k : ℕ) → thenRead (readCell p s) (λ c k. reads (to c) k) ≡ reads x k → thenRead (readCell q s) (λ c k. reads (to c) k) ≡ reads x k
-to-any p q s x k e = then-by (readCell p s) _ e λ c j e₁ e₂. rw (cell-any p q s c j e₁) e₂
+to-any : (p q : ℕ) (s : List ℕ) (x : Target) (k : ℕ) → thenRead (readPlace p s) (λ c k. reads (to c) k) ≡ reads x k → thenRead (readPlace q s) (λ c k. reads (to c) k) ≡ reads x k
+to-any p q s x k e = then-by (readPlace p s) _ e λ c j e₁ e₂. rw (cell-any p q s c j e₁) e₂
 
 pub dest-any : (d : Dest) (p q : ℕ) (s : List ℕ) (x : Target) (k : ℕ) → readDest d p s ≡ reads x k → readDest d q s ≡ reads x k
 dest-any Nowhere p q s x k e = e
@@ -32,8 +30,8 @@ dest-any ToCell p q s x k e = to-any p q s x k e
 dest-any ToTarget p q [] x k e = never e
 dest-any ToTarget p q (b ∷ s) x k e = go (eqb b 0) e
   where
-    go : (t : Bool) → cond t (reads nowhere 1) (thenRead (readCell p (b ∷ s)) (λ c k. reads (to c) k)) ≡ reads x k →
-        cond t (reads nowhere 1) (thenRead (readCell q (b ∷ s)) (λ c k. reads (to c) k)) ≡ reads x k
+    go : (t : Bool) → cond t (reads nowhere 1) (thenRead (readPlace p (b ∷ s)) (λ c k. reads (to c) k)) ≡ reads x k →
+        cond t (reads nowhere 1) (thenRead (readPlace q (b ∷ s)) (λ c k. reads (to c) k)) ≡ reads x k
     go true f = f
     go false f = to-any p q (b ∷ s) x k f
 

@@ -1,31 +1,29 @@
 -- Reading at a place of a part, in the code's words: one law for each of its returns.
-use mathlib.Core.Path.{_≡_, refl, sym, ap, subst, _∙_}
-use mathlib.Core.Bool.{Bool, true, false, cond}
+use mathlib.Core.Path.{_≡_, refl, sym, ap, _∙_}
+use mathlib.Core.Bool.{true, false}
 use mathlib.Core.List.{List, [], _∷_}
-use Prim.Native.Nat.{ℕ, zero, suc, _+_, _-_, _*_, _/_, _%_, _≤_, _<_}
+use Prim.Native.Nat.{ℕ, zero, suc, _+_, _-_, _≤_, _<_}
 use native.Mathlib.Omega.{arith}
 use native.Mathlib.Numerals.{add-one}
-use lib.Dec.{leb, eqb}
 use lib.ListN.{length, take, drop, getD, length-drop, drop-of-length-le}
-use lib.Seq.{drop-cons, drop-drop, drop-nil, take-all}
-use borrow.Author.Tests.{le-leb, lt-leb, ne-eqb, leb-true, leb-false}
-use Rattle.pkg_length.specs.Refusal.{Answer, gives, refuses, andThen, refused, blockLimit}
-use Rattle.pkg_length.specs.Little.{little}
-use Rattle.pkg_length.specs.declared.PkgLength.{PkgLength}
-use Rattle.pkg_length.specs.Pkg.{Raw, Pkg, spelt, rawLength, fromRaw, pkgLength}
+use lib.Seq.{drop-cons, drop-drop, drop-nil}
+use borrow.Author.Tests.{le-leb, lt-leb, ne-eqb}
+use Rattle.pkg_length.specs.Refusal.{Answer, gives, refuses, refused}
+use Rattle.pkg_length.specs.Pkg.{Raw}
 use Rattle.statement.specs.declared.opcode.Dest.{Dest}
 use Rattle.statement.specs.declared.opcode.Dest.the-variants.{Nowhere, ToCell, ToTarget}
 use Rattle.statement.specs.declared.opcode.TermOp.{TermOp}
 use Rattle.statement.specs.declared.opcode.StmtOp.{StmtOp}
 use Rattle.statement.specs.declared.opcode.StmtOp.the-variants.{Expr}
-use Rattle.statement.specs.Opcode.{isCell, termOp, stmtOp, expression}
+use Rattle.statement.specs.Opcode.{isCell, termOp, stmtOp}
 use Rattle.statement.specs.Tree.{to, Term, Stmt, expr, Stmts, cons}
 use Rattle.statement.specs.Grammar.{depthLimit}
-use Rattle.statement.specs.Reader.{Read, read, reads, thenRead, readBytes, readCell, readDest, operand, before, readOne, readTwo, termBy, readTerm, moved, readPackage, Head, head, ifOf, readExpr, readHead, readElse, readIf, stmtBy, listBy, readStmt, readList}
+use Rattle.statement.specs.Reader.{Read, took, reads, thenRead, readBytes, readPlace, readDest, operand, before, readOne, readTwo, termBy, readTerm, readPackage, Head, head, ifOf, readHead, readElse, readIf, stmtBy, listBy, readStmt, readList}
 use Rattle.statement.specs.declared.term.Reach.{Reach}
 use Rattle.statement.specs.declared.read.Package.{Package}
 use Rattle.statement.specs.Said.{«NEXT», refusalOf, reached, packed, upTo}
-use Rattle.statement.specs.Lent.{Accepts}
+use Rattle.statement.specs.declared.exec.Span.{Span}
+use Rattle.statement.specs.Lent.{spanned, Spans}
 use Rattle.statement.proofs.Answers.{Takes}
 use Rattle.pkg_length.proofs.Packages.{Packs}
 use Rattle.statement.proofs.Packages.{package-sound}
@@ -59,24 +57,24 @@ module _ (w : Package) where
 
 module _ {A : Type 0} where
   pub ans-ok : {X : Type 0} (at : ℕ) (R : Answer (Read A)) (n : ℕ) → gives n ≡ upTo at R → ((a : A) (k : ℕ) → R ≡ reads a k → n ≡ at + k → X) → X
-  ans-ok at (gives (read a k)) n e g = g a k refl (cc)
+  ans-ok at (gives (took a k)) n e g = g a k refl (cc)
   ans-ok at (refuses c p) n e g = absurd (let z : _≡_ {A = ℕ} 0 1 = cc in omega arith)
 
   pub ans-no : (at : ℕ) (R : Answer (Read A)) (c p : ℕ) → refuses c p ≡ upTo at R → R ≡ refuses c p
-  ans-no at (gives (read a k)) c p e = absurd (let z : _≡_ {A = ℕ} 0 1 = cc in omega arith)
+  ans-no at (gives (took a k)) c p e = absurd (let z : _≡_ {A = ℕ} 0 1 = cc in omega arith)
   ans-no at (refuses n m) c p e = let x : n ≡ c = cc in let y : m ≡ p = cc in rw (x, y)
 
 -- what only goes on with what was read
 pub after : {A B : Type 0} (at : ℕ) (R : Answer (Read A)) (f : A → B) (j : ℕ) → upTo at (thenRead R (λ a k. reads (f a) (j + k))) ≡ upTo (at + j) R
-after at (gives (read a k)) f j = ap gives (omega arith)
+after at (gives (took a k)) f j = ap gives (omega arith)
 after at (refuses n p) f j = refl
 
 pub after-one : {A B : Type 0} (at : ℕ) (R : Answer (Read A)) (f : A → B) → upTo at (thenRead R (λ a k. reads (f a) (suc k))) ≡ upTo (at + 1) R
-after-one at (gives (read a k)) f = ap gives (omega arith)
+after-one at (gives (took a k)) f = ap gives (omega arith)
 after-one at (refuses n p) f = refl
 
 pub same-reach : {A B : Type 0} (at : ℕ) (R : Answer (Read A)) (f : A → B) → upTo at (thenRead R (λ a k. reads (f a) k)) ≡ upTo at R
-same-reach at (gives (read a k)) f = refl
+same-reach at (gives (took a k)) f = refl
 same-reach at (refuses n p) f = refl
 
 -- the bytes from a place within a part
@@ -105,20 +103,20 @@ module _ (b at n : ℕ) (s : List ℕ) (le : at ≤ length s) where
       rw (q, le-leb n (length s - at) h)
 
 module _ (p at : ℕ) (s : List ℕ) where
-  pub cell-end : length s ≤ at → refuses 1 p ≡ upTo at (readCell p (drop at s))
+  pub cell-end : length s ≤ at → refuses 1 p ≡ upTo at (readPlace p (drop at s))
   cell-end h = rw (drop-of-length-le s h)
 
-  pub cell-here : at < length s → isCell (getD s at 0) ≡ true → gives (at + 1) ≡ upTo at (readCell p (drop at s))
+  pub cell-here : at < length s → isCell (getD s at 0) ≡ true → gives (at + 1) ≡ upTo at (readPlace p (drop at s))
   cell-here h e = rw (here s at h, e)
 
-  pub cell-not : at < length s → isCell (getD s at 0) ≡ false → refuses 3 p ≡ upTo at (readCell p (drop at s))
+  pub cell-not : at < length s → isCell (getD s at 0) ≡ false → refuses 3 p ≡ upTo at (readPlace p (drop at s))
   cell-not h e = rw (here s at h, e)
 
   pub dest-none : gives at ≡ upTo at (readDest Nowhere p (drop at s))
   dest-none = ap gives (omega arith)
 
-  pub dest-cell : (a : Answer ℕ) → a ≡ upTo at (readCell p (drop at s)) → a ≡ upTo at (readDest ToCell p (drop at s))
-  dest-cell a e = e ∙ sym (same-reach at (readCell p (drop at s)) to)
+  pub dest-cell : (a : Answer ℕ) → a ≡ upTo at (readPlace p (drop at s)) → a ≡ upTo at (readDest ToCell p (drop at s))
+  dest-cell a e = e ∙ sym (same-reach at (readPlace p (drop at s)) to)
 
   pub target-end : length s ≤ at → refuses 1 p ≡ upTo at (readDest ToTarget p (drop at s))
   target-end h = rw (drop-of-length-le s h)
@@ -126,10 +124,10 @@ module _ (p at : ℕ) (s : List ℕ) where
   pub target-null : at < length s → getD s at 0 ≡ 0 → gives (at + 1) ≡ upTo at (readDest ToTarget p (drop at s))
   target-null h e = rw (here s at h, e)
 
-  pub target-cell : at < length s → (getD s at 0 ≡ 0 → ⊥) → (a : Answer ℕ) → a ≡ upTo at (readCell p (drop at s)) → a ≡ upTo at (readDest ToTarget p (drop at s))
+  pub target-cell : at < length s → (getD s at 0 ≡ 0 → ⊥) → (a : Answer ℕ) → a ≡ upTo at (readPlace p (drop at s)) → a ≡ upTo at (readDest ToTarget p (drop at s))
   target-cell h ne a e =
       rw (here s at h, ne-eqb (getD s at 0) 0 ne)
-      ((rw (here s at h) at e) ∙ sym (same-reach at (readCell p (getD s at 0 ∷ drop (at + 1) s)) to))
+      ((rw (here s at h) at e) ∙ sym (same-reach at (readPlace p (getD s at 0 ∷ drop (at + 1) s)) to))
 
 module _ (l b at : ℕ) (s : List ℕ) where
   pub term-deep : l ≡ 0 → refuses 4 (b + at) ≡ upTo at (readTerm l (b + at) (drop at s))
@@ -261,19 +259,10 @@ module _ (l b at : ℕ) (s : List ℕ) (h : 0 < l) (lt : at < length s) (r : Stm
   pub stmt-arm : (o : StmtOp) (a : Answer ℕ) → r ≡ o → a ≡ upTo at (stmtBy (readList (l - 1)) (getD s at 0) (b + at) (drop (at + 1) s) o) → a ≡ upTo at (readStmt l (b + at) (drop at s))
   stmt-arm o a f g = g ∙ sym (ap (upTo at) (stmt-is-by l (b + at) at s r o h lt e f))
 
-module _ (p at : ℕ) (s : List ℕ) (lt : at < length s) where
-  pub expr-term : (a : Answer ℕ) → expression (termOp (getD s at 0)) ≡ true → a ≡ upTo at (readTerm depthLimit p (drop at s)) → a ≡ upTo at (readExpr p (drop at s))
-  expr-term a e f =
-      rw (here s at lt, e)
-      ((rw (here s at lt) at f) ∙ sym (same-reach at (readTerm depthLimit p (getD s at 0 ∷ drop (at + 1) s)) expr))
-
-  pub expr-not : expression (termOp (getD s at 0)) ≡ false → refuses 3 p ≡ upTo at (readExpr p (drop at s))
-  expr-not e = rw (here s at lt, e)
-
-  -- an expression starts with its own opcode
-  pub expr-here : (list : ℕ → List ℕ → Answer (Read Stmts)) (a : Answer ℕ) → a ≡ upTo at (readExpr p (drop at s)) →
-      a ≡ upTo at (stmtBy list (getD s at 0) p (drop (at + 1) s) Expr)
-  expr-here list a e = rw (here s at lt) at e
+-- an expression starts with its own opcode
+pub expr-here : (p at : ℕ) (s : List ℕ) → at < length s → (list : ℕ → List ℕ → Answer (Read Stmts)) (a : Answer ℕ) → a ≡ upTo at (readTerm depthLimit p (drop at s)) →
+    a ≡ upTo at (stmtBy list (getD s at 0) p (drop (at + 1) s) Expr)
+expr-here p at s lt list a e = (rw (here s at lt) at e) ∙ sym (same-reach at (readTerm depthLimit p (getD s at 0 ∷ drop (at + 1) s)) expr)
 
 -- ## Packages and bodies
 
@@ -282,6 +271,9 @@ pub package-in : (p at : ℕ) (s : List ℕ) (n u : ℕ) → gives (record { raw
 package-in p at s n u e h =
     let k : Packs (drop at s) (record { raw = n; used = u }) = package-sound p (drop at s) _ (sym e) in
     (k .holds, k .own-in, omega (arith, k .within, length-drop at s))
+
+pub spans : (at : ℕ) (s : List ℕ) (r : Span) → gives (spanned r) ≡ readPackage 0 (drop at s) → at ≤ length s → Spans s at r
+spans at s r e h = let k = package-in 0 at s (r .raw) (r .used) e h in record { is = e; own = k .1; fits = k .2 }
 
 pub package-within : (w : Package) → w .0 .0 ≡ «NEXT» → (p at : ℕ) (s : List ℕ) → packed w ≡ readPackage p (drop at s) → at ≤ length s →
     (0 < w .1) × (w .1 ≤ w .0 .1) × (at + w .0 .1 ≤ length s)

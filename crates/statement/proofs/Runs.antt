@@ -1,139 +1,84 @@
 -- What a run answers of an accepted part, in the code's words: one law for each of its returns.
 use mathlib.Core.Path.{_≡_, refl, sym, ap, _∙_}
-use mathlib.Core.Bool.{Bool, true, false, cond}
+use mathlib.Core.Bool.{true, false, cond}
 use mathlib.Core.List.{List, [], _∷_}
 use Prim.Native.Nat.{ℕ, zero, suc, _+_, _-_, _≤_, _<_}
 use native.Mathlib.Omega.{arith}
-use lib.Dec.{leb, eqb}
-use lib.ListN.{length, take, drop, getD, length-drop, drop-of-length-le}
+use lib.Dec.{leb}
+use lib.ListN.{length, take, drop, getD, length-take, length-drop, drop-of-length-le}
 use lib.Seq.{drop-drop}
 use borrow.Author.Tests.{eq-eqb, ne-eqb, leb-true}
-use Rattle.pkg_length.specs.Refusal.{Answer, gives, refuses}
+use Rattle.pkg_length.specs.Refusal.{Answer, gives, refuses, blockLimit}
 use Rattle.pkg_length.specs.Pkg.{Raw}
 use Rattle.statement.specs.declared.frame.Frame.{Frame}
+use Rattle.statement.specs.declared.eval.Value.{Value}
 use Rattle.statement.specs.declared.eval.Value.the-variants.{Num, Missing}
+use Rattle.statement.specs.declared.exec.Out.{Out}
+use Rattle.statement.specs.declared.exec.Out.the-variants.{Finished, Returned, BreakOut, ContinueOut, Spent, Unset}
 use Rattle.statement.specs.declared.exec.Done.{Done}
 use Rattle.statement.specs.declared.exec.Moved.{Moved}
 use Rattle.statement.specs.declared.opcode.Plain.{Plain}
 use Rattle.statement.specs.declared.opcode.Plain.the-variants.{Break, Continue, BreakPoint, Noop}
 use Rattle.statement.specs.declared.opcode.StmtOp.{StmtOp}
-use Rattle.statement.specs.Opcode.{termOp, stmtOp, expression}
-use Rattle.statement.specs.Tree.{Term, Stmt, plain, return, ifElse, while, expr, Stmts, nil, cons}
+use Rattle.statement.specs.Opcode.{stmtOp}
+use Rattle.statement.specs.Tree.{Term, Stmt, plain, return, ifElse, while, expr, Stmts, cons}
 use Rattle.statement.specs.Grammar.{depthLimit}
-use Rattle.statement.specs.Reader.{Read, read, reads, thenRead, readTerm, readPackage, Head, head, whileOf, readExpr, readHead, elseBy, readElse, readIf, stmtBy, listBy, readStmt, readList}
-use Rattle.statement.specs.Meaning.{width, Ev, got, lacks, eval, Ended, finished, returned, breakOut, continueOut, Ran, ended, spend, test, goOn, plainEnd, Go, again, ends, goOf, Turn, turned, turnTest, oneTurn, afterTurn, turns, doStmt, doStmts}
+use Rattle.statement.specs.Reader.{Read, took, reads, thenRead, readTerm, readPackage, Head, head, whileOf, readHead, elseBy, readElse, readIf, stmtBy, listBy, readStmt, readList}
+use Rattle.statement.specs.Meaning.{frames, Ran, ran, thenDo, spend, eval, Ended, finished, returned, breakOut, continueOut, goOn, plainEnd, again, over, afterTurn, oneTurn, turns, doStmt, doStmts}
 use Rattle.statement.specs.Said.{upTo}
-use Rattle.statement.specs.Lent.{Accepts, Evaled, evAt, evaledBy, outSaid, on, stop, Step, wayOf, stepAt, stepF, ranOf, stepOf, stepDo, whileDo, bodyFrom, TurnsOk, turnOf, turnsBy, movedTo, plainTo, returnTo, dropTo}
+use Rattle.statement.specs.Lent.{Accepts, StmtReady, valueSaid, evaledBy, outSaid, Way, on, stop, stepAt, stepF, turnAt, ranOf, stepOf, stepDo, whileDo, bodyFrom, TurnsOk, turnOf, turnsBy, isFinished, turnsOn, whileOut, movedTo, plainTo, returnTo, dropTo}
 use Rattle.statement.proofs.Answers.{Takes, then-by, and-by, pick-ok}
 use Rattle.statement.proofs.Statements.{stmt-sound}
 use Rattle.statement.proofs.Reaches.{here, stmt-is-by, list-eq}
 use Rattle.statement.proofs.Packages.{package-any}
 use Rattle.statement.proofs.Places.{term-any, list-any, else-any, head-any, if-any}
+use Rattle.statement.proofs.Units.{leftOf, term-left, list-left, turns-next, turn-less, with-units}
 use Rattle.statement.proofs.Evals.{acc-ok, is-acc, acc-then, acc-same, ev-num, ev-missing}
 
--- ## No statement makes units
+pub ran-left : (w : ℕ) (R : Answer (Read Stmts)) (f : Frame) (u : ℕ) → leftOf (ranOf w R f u) ≤ u
+unfolding leftOf
+ran-left w (gives (took xs k)) f u = list-left frames w xs f u
+ran-left w (refuses n p) f u = omega arith
 
-pick-left : (c : Bool) (A B : Ran) (u : ℕ) → A .left ≤ u → B .left ≤ u → cond c A B .left ≤ u
-pick-left true A B u h k = h
-pick-left false A B u h k = k
-
-test-left : (v : Ev) (u : ℕ) (k : ℕ → Frame → Ran) → ((n : ℕ) (g : Frame) → k n g .left ≤ u) → test v u k .left ≤ u
-test-left (got n f) u k h = h n f
-test-left (lacks c f) u k h = omega arith
-
-go-left : (e : Answer Ended) (f : Frame) (u : ℕ) (k : Frame → ℕ → Ran) → ((g : Frame) (w : ℕ) → k g w .left ≤ w) → goOn f u e k .left ≤ u
-go-left (gives finished) f u k h = h f u
-go-left (gives (returned n)) f u k h = omega arith
-go-left (gives breakOut) f u k h = omega arith
-go-left (gives continueOut) f u k h = omega arith
-go-left (refuses n p) f u k h = omega arith
-
-spend-left : (f : Frame) (u : ℕ) (k : ℕ → Ran) → ((w : ℕ) → k w .left ≤ w) → spend f u k .left ≤ u
-spend-left f zero k h = omega arith
-spend-left f (suc u) k h = omega (arith, h u)
-
--- a turn that asks for another has used a unit, and none makes units
-module _ (p : Frame → Ev) (body : Frame → ℕ → Ran) (h : (g : Frame) (w : ℕ) → body g w .left ≤ w) where
-  tested-left : (v : Ev) (w : ℕ) →
-      turnTest v w (λ n g. cond (eqb n 0) (turned g w (ends (gives finished))) (turned (body g w .frame) (body g w .left) (goOf (body g w .end)))) .left ≤ w
-  tested-left (lacks c f) w = omega arith
-  tested-left (got n g) w = go (eqb n 0)
-    where
-      go : (c : Bool) → cond c (turned g w (ends (gives finished))) (turned (body g w .frame) (body g w .left) (goOf (body g w .end))) .left ≤ w
-      go true = omega arith
-      go false = h g w
-
-  turn-left : (f : Frame) (u : ℕ) → oneTurn p body f u .left ≤ u
-  turn-left f zero = omega arith
-  turn-left f (suc w) = omega (arith, tested-left (p f) w)
-
-  pub turn-less : (f : Frame) (u : ℕ) → oneTurn p body f u .go ≡ again → oneTurn p body f u .left < u
-  turn-less f zero e = absurd (let z : _≡_ {A = ℕ} 0 1 = cc in omega arith)
-  turn-less f (suc w) e = omega (arith, tested-left (p f) w)
-
-  after-left : (g : Go) (f : Frame) (u : ℕ) (k : Frame → ℕ → Ran) → ((x : Frame) (w : ℕ) → k x w .left ≤ w) → afterTurn f u g k .left ≤ u
-  after-left again f u k h = h f u
-  after-left (ends e) f u k h = omega arith
-
-  turns-left : (k : ℕ) (f : Frame) (u : ℕ) → turns p body k f u .left ≤ u
-  unfolding turns
-  turns-left zero f u = omega arith
-  turns-left (suc k) f u =
-      let t = oneTurn p body f u in
-      let z : afterTurn (t .frame) (t .left) (t .go) (turns p body k) .left ≤ t .left = after-left (t .go) (t .frame) (t .left) (turns p body k) (turns-left k) in
-      omega (arith, z, turn-left f u)
-
-mutual
-  unfolding doStmt
-
-  do-left : (x : Stmt) (f : Frame) (u : ℕ) → doStmt width x f u .left ≤ u
-  do-left (plain o) f u = omega arith
-  do-left (return t) f u = test-left (eval width t f) u (λ n g. ended g u (gives (returned n))) (λ n g. omega arith)
-  do-left (ifElse t xs ys) f u =
-      test-left (eval width t f) u (λ n g. cond (eqb n 0) (doStmts width ys g u) (doStmts width xs g u))
-      (λ n g. pick-left (eqb n 0) (doStmts width ys g u) (doStmts width xs g u) u (list-left ys g u) (list-left xs g u))
-  do-left (while t xs) f u = turns-left (eval width t) (λ g w. doStmts width xs g w) (λ g w. list-left xs g w) (suc u) f u
-  do-left (expr t) f u = test-left (eval width t f) u (λ n g. ended g u (gives finished)) (λ n g. omega arith)
-
-  pub list-left : (xs : Stmts) (f : Frame) (u : ℕ) → doStmts width xs f u .left ≤ u
-  list-left nil f u = omega arith
-  list-left (cons x xs) f u =
-      let r = spend f u (λ v. doStmt width x f v) in
-      let z : goOn (r .frame) (r .left) (r .end) (λ g w. doStmts width xs g w) .left ≤ r .left = go-left (r .end) (r .frame) (r .left) (λ g w. doStmts width xs g w) (λ g w. list-left xs g w) in
-      omega (arith, z, spend-left f u (λ v. doStmt width x f v) (λ v. do-left x f v))
-
-pub ran-left : (R : Answer (Read Stmts)) (f : Frame) (u : ℕ) → ranOf R f u .left ≤ u
-ran-left (gives (read xs k)) f u = list-left xs f u
-ran-left (refuses n p) f u = omega arith
+-- a part of a part is no longer
+pub part-short : (s : List ℕ) (n at : ℕ) → length s ≤ blockLimit → length (take n (drop at s)) ≤ blockLimit
+part-short s n at h = omega (arith, length-take n (drop at s), length-drop at s)
 
 -- ## A list
 
-step-on : (m n : ℕ) (y : Ran) (r : Step) → r ≡ stepAt m y → r .way ≡ on n → (n ≡ m) × (y .end ≡ gives finished) × (y .frame ≡ r .frame) × (y .left ≡ r .left)
-step-on m n y r e h = go (y .end) refl (sym (ap (λ (z : Step). z .way) e) ∙ h)
-  where
-    go : (d : Answer Ended) → y .end ≡ d → wayOf m d ≡ on n → (n ≡ m) × (y .end ≡ gives finished) × (y .frame ≡ r .frame) × (y .left ≡ r .left)
-    go (gives finished) q z = (let w : n ≡ m = cc in w, q, sym (ap (λ (z : Step). z .frame) e), sym (ap (λ (z : Step). z .left) e))
-    go (gives (returned x)) q z = absurd (let z : _≡_ {A = ℕ} 0 1 = cc in omega arith)
-    go (gives breakOut) q z = absurd (let z : _≡_ {A = ℕ} 0 1 = cc in omega arith)
-    go (gives continueOut) q z = absurd (let z : _≡_ {A = ℕ} 0 1 = cc in omega arith)
-    go (refuses c x) q z = absurd (let z : _≡_ {A = ℕ} 0 1 = cc in omega arith)
+-- a statement's end is told by where it leads
+unstep : Ran Frame Way → Ran Frame Ended
+unstep (ran f u (gives (on n))) = ran f u (gives finished)
+unstep (ran f u (gives (stop e))) = ran f u (gives e)
+unstep (ran f u (refuses n p)) = ran f u (refuses n p)
 
-go-finished : (e : Answer Ended) (f : Frame) (u : ℕ) (k : Frame → ℕ → Ran) → e ≡ gives finished → goOn f u e k ≡ k f u
-go-finished e f u k h = rw h
+step-back : (m : ℕ) (y : Ran Frame Ended) → unstep (stepAt m y) ≡ y
+unfolding unstep
+step-back m (ran f u (gives finished)) = refl
+step-back m (ran f u (gives (returned n))) = refl
+step-back m (ran f u (gives breakOut)) = refl
+step-back m (ran f u (gives continueOut)) = refl
+step-back m (ran f u (refuses n p)) = refl
 
-stopped : (m : ℕ) (d e : Answer Ended) (f : Frame) (u : ℕ) (k : Frame → ℕ → Ran) → wayOf m d ≡ stop e → ended f u e ≡ goOn f u d k
-stopped m (gives finished) e f u k h = absurd (let z : _≡_ {A = ℕ} 0 1 = cc in omega arith)
-stopped m (gives (returned n)) e f u k h = let q : gives (returned n) ≡ e = cc in rw (← q)
-stopped m (gives breakOut) e f u k h = let q : gives breakOut ≡ e = cc in rw (← q)
-stopped m (gives continueOut) e f u k h = let q : gives continueOut ≡ e = cc in rw (← q)
-stopped m (refuses n p) e f u k h = let q : refuses n p ≡ e = cc in rw (← q)
+same-end : (n m : ℕ) (x y : Ran Frame Ended) → stepAt n x ≡ stepAt m y → x ≡ y
+same-end n m x y e = sym (step-back n x) ∙ ap unstep e ∙ step-back m y
 
-step-stop : (m : ℕ) (e : Answer Ended) (y : Ran) (r : Step) (k : Frame → ℕ → Ran) → r ≡ stepAt m y → r .way ≡ stop e →
-    record { frame = r .frame; left = r .left; end = e } ≡ goOn (y .frame) (y .left) (y .end) k
-step-stop m e y r k h g =
-    let q : r .frame ≡ y .frame = ap (λ (z : Step). z .frame) h in
-    let p : r .left ≡ y .left = ap (λ (z : Step). z .left) h in
-    rw (q, p) (stopped m (y .end) e (y .frame) (y .left) k (sym (ap (λ (z : Step). z .way) h) ∙ g))
+ends-finished : (o : Out) → isFinished o ≡ true → outSaid o ≡ gives finished
+ends-finished Finished e = refl
+ends-finished (Returned n) e = absurd (let z : _≡_ {A = ℕ} 0 1 = cc in omega arith)
+ends-finished BreakOut e = absurd (let z : _≡_ {A = ℕ} 0 1 = cc in omega arith)
+ends-finished ContinueOut e = absurd (let z : _≡_ {A = ℕ} 0 1 = cc in omega arith)
+ends-finished Spent e = absurd (let z : _≡_ {A = ℕ} 0 1 = cc in omega arith)
+ends-finished (Unset c) e = absurd (let z : _≡_ {A = ℕ} 0 1 = cc in omega arith)
+
+ends-list : (o : Out) (f : Frame) (u : ℕ) (k : Frame → ℕ → Ran Frame Ended) → isFinished o ≡ false →
+    ran f u (outSaid o) ≡ thenDo (ran f u (outSaid o)) (λ e g v. goOn e k g v)
+ends-list Finished f u k e = absurd (let z : _≡_ {A = ℕ} 0 1 = cc in omega arith)
+ends-list (Returned n) f u k e = refl
+ends-list BreakOut f u k e = refl
+ends-list ContinueOut f u k e = refl
+ends-list Spent f u k e = refl
+ends-list (Unset c) f u k e = refl
 
 first-ok : {X : Type 0} (st : ℕ → List ℕ → Answer (Read Stmt)) (p : ℕ) (d : List ℕ) (ys : Stmts) (q : ℕ) → 0 < length d → listBy st 0 p d ≡ reads ys q →
     ((x : Stmt) (k : ℕ) → st p d ≡ reads x k → X) → X
@@ -160,38 +105,43 @@ module _ (l at : ℕ) (s : List ℕ) (f : Frame) (u : ℕ) (lt : at < length s) 
   pub list-stmt-acc : Accepts (readStmt l 0 (drop at s))
   list-stmt-acc = list-open (λ x k xs j h₁ h₂ e₁ e₂ e₃. is-acc e₁)
 
-  module _ (r : Step) (er : r ≡ stepOf at (readStmt l 0 (drop at s)) f u) where
-    pub run-more : (n : ℕ) → r .way ≡ on n → (at < n) × (n ≤ length s) × Accepts (readList l 0 (drop n s)) ×
-        (ranOf (readList l 0 (drop at s)) f u ≡ ranOf (readList l 0 (drop n s)) (r .frame) (r .left))
-    unfolding doStmts
-    run-more n h =
-        list-open λ x k xs j h₁ h₂ e₁ e₂ e₃.
-        let y = spend f u (λ v. doStmt width x f v) in
-        let q : r ≡ stepAt (at + k) y = er ∙ ap (λ (R : Answer (Read Stmt)). stepOf at R f u) e₁ in
-        let (d₁, d₂, d₃, d₄) = step-on (at + k) n y r q h in
-        (omega arith, omega arith, rw d₁ (is-acc e₂), rw (e₃, d₁, e₂, ← d₃, ← d₄) (go-finished (y .end) (y .frame) (y .left) (λ g w. doStmts width xs g w) d₂))
+  module _ (w : ℕ) (g : Frame) (r : Moved) (er : stepF g r ≡ stepOf w at (readStmt l 0 (drop at s)) f u) where
+    same : (x : Stmt) (k : ℕ) → readStmt l 0 (drop at s) ≡ reads x k → stepF g r ≡ stepAt (at + k) (spend f u (λ v. doStmt frames w x f v))
+    same x k e = er ∙ ap (λ (R : Answer (Read Stmt)). stepOf w at R f u) e
 
-    pub run-stop : (e : Answer Ended) → r .way ≡ stop e → record { frame = r .frame; left = r .left; end = e } ≡ ranOf (readList l 0 (drop at s)) f u
+    pub run-more : isFinished (r .out) ≡ true → (at < r .next) × (r .next ≤ length s) × Accepts (readList l 0 (drop (r .next) s)) ×
+        (ranOf w (readList l 0 (drop at s)) f u ≡ ranOf w (readList l 0 (drop (r .next) s)) g (r .units))
     unfolding doStmts
-    run-stop e h =
+    run-more h =
         list-open λ x k xs j h₁ h₂ e₁ e₂ e₃.
-        let y = spend f u (λ v. doStmt width x f v) in
-        let q : r ≡ stepAt (at + k) y = er ∙ ap (λ (R : Answer (Read Stmt)). stepOf at R f u) e₁ in
-        rw e₃ (step-stop (at + k) e y r (λ g w. doStmts width xs g w) q h)
+        let o : outSaid (r .out) ≡ gives finished = ends-finished (r .out) h in
+        let q : ran g (r .units) (outSaid (r .out)) ≡ spend f u (λ v. doStmt frames w x f v) = same-end (r .next) (at + k) _ _ (same x k e₁) in
+        let p : ran g (r .units) (gives finished) ≡ spend f u (λ v. doStmt frames w x f v) = rw o at q in
+        let z : ran g (r .units) (gives (on (r .next))) ≡ ran g (r .units) (gives (on (at + k))) =
+        (rw o at (same x k e₁)) ∙ sym (ap (stepAt (at + k)) p) in
+        let d : r .next ≡ at + k = cc in
+        (omega arith, omega arith, rw d (is-acc e₂), rw (e₃, d, e₂, ← p))
 
-pub run-end : (l at : ℕ) (s : List ℕ) (f : Frame) (u : ℕ) → length s ≤ at → ended f u (gives finished) ≡ ranOf (readList l 0 (drop at s)) f u
+    pub run-stop : isFinished (r .out) ≡ false → ran g (r .units) (outSaid (r .out)) ≡ ranOf w (readList l 0 (drop at s)) f u
+    unfolding doStmts
+    run-stop h =
+        list-open λ x k xs j h₁ h₂ e₁ e₂ e₃.
+        let q : ran g (r .units) (outSaid (r .out)) ≡ spend f u (λ v. doStmt frames w x f v) = same-end (r .next) (at + k) _ _ (same x k e₁) in
+        rw (e₃, ← q) (ends-list (r .out) g (r .units) (λ y z. doStmts frames w xs y z) h)
+
+pub run-end : (w l at : ℕ) (s : List ℕ) (f : Frame) (u : ℕ) → length s ≤ at → ran f u (gives finished) ≡ ranOf w (readList l 0 (drop at s)) f u
 unfolding listBy doStmts
-run-end l at s f u h = rw (drop-of-length-le s h)
+run-end w l at s f u h = rw (drop-of-length-le s h)
 
 -- ## An else
 
-pub else-none : (l at : ℕ) (s : List ℕ) (f : Frame) (u : ℕ) → length s ≤ at → ended f u (gives finished) ≡ ranOf (readElse (readList l) 0 (drop at s)) f u
+pub else-none : (w l at : ℕ) (s : List ℕ) (f : Frame) (u : ℕ) → length s ≤ at → ran f u (gives finished) ≡ ranOf w (readElse (readList l) 0 (drop at s)) f u
 unfolding readElse doStmts
-else-none l at s f u h = rw (drop-of-length-le s h)
+else-none w l at s f u h = rw (drop-of-length-le s h)
 
-pub else-other : (l at : ℕ) (s : List ℕ) (f : Frame) (u : ℕ) → at < length s → (getD s at 0 ≡ 0xA1 → ⊥) → ended f u (gives finished) ≡ ranOf (readElse (readList l) 0 (drop at s)) f u
+pub else-other : (w l at : ℕ) (s : List ℕ) (f : Frame) (u : ℕ) → at < length s → (getD s at 0 ≡ 0xA1 → ⊥) → ran f u (gives finished) ≡ ranOf w (readElse (readList l) 0 (drop at s)) f u
 unfolding readElse doStmts
-else-other l at s f u h ne = rw (here s at h, ne-eqb (getD s at 0) 0xA1 ne)
+else-other w l at s f u h ne = rw (here s at h, ne-eqb (getD s at 0) 0xA1 ne)
 
 module _ (l at : ℕ) (s : List ℕ) (lt : at < length s) (eq : getD s at 0 ≡ 0xA1) (acc : Accepts (readElse (readList l) 0 (drop at s))) where
   else-eq : readElse (readList l) 0 (drop at s) ≡ elseBy (readList l) 1 (drop (at + 1) s) true
@@ -224,8 +174,8 @@ module _ (l at : ℕ) (s : List ℕ) (lt : at < length s) (eq : getD s at 0 ≡ 
     pub else-next : gives (at + 1 + w .raw) ≡ upTo at (readElse (readList l) 0 (drop at s))
     else-next = else-open λ es j e₁ e₂. rw e₂ (ap gives (omega arith))
 
-    pub else-ran : (f : Frame) (u : ℕ) (x : Ran) → x ≡ ranOf else-body f u → x ≡ ranOf (readElse (readList l) 0 (drop at s)) f u
-    else-ran f u x h = else-open λ es j e₁ e₂. rw e₂ (rw e₁ at h)
+    pub else-ran : (v : ℕ) (f : Frame) (u : ℕ) (x : Ran Frame Ended) → x ≡ ranOf v else-body f u → x ≡ ranOf v (readElse (readList l) 0 (drop at s)) f u
+    else-ran v f u x h = else-open λ es j e₁ e₂. rw e₂ (rw e₁ at h)
 
 -- ## A predicate and its body
 
@@ -272,14 +222,14 @@ module _ (l at : ℕ) (s : List ℕ) (acc : Accepts (readHead (readList l) 0 (dr
     pub turns-ok : TurnsOk l s (at + w .raw) (at + w .used) test-term
     turns-ok = head-open (λ t k xs j e₁ le e₂ e₃. rw e₁ (le, is-acc e₂))
 
-    pub while-ran : (f : Frame) (u : ℕ) (r : Ran) (z : Step) → r ≡ turnsBy l s (at + w .raw) (at + w .used) test-term (suc u) f u →
-        z ≡ stepAt (at + w .raw) r → z ≡ whileDo at (readHead (readList l) 0 (drop at s)) f u
+    pub while-ran : (v : ℕ) (f : Frame) (u : ℕ) (r : Ran Frame Ended) (z : Ran Frame Way) → r ≡ turnsBy l s (at + w .raw) (at + w .used) v test-term f u →
+        z ≡ stepAt (at + w .raw) r → z ≡ whileDo v at (readHead (readList l) 0 (drop at s)) f u
     unfolding doStmt
-    while-ran f u r z h e =
+    while-ran v f u r z h e =
         head-open λ t k xs j e₁ le e₂ e₃.
-        let h₂ : r ≡ turns (eval width t) (λ g v. ranOf (bodyFrom l s (at + w .raw) (at + w .used) (at + w .used + k)) g v) (suc u) f u = rw e₁ at h in
-        let h₃ : r ≡ doStmt width (while t xs) f u = h₂ ∙ ap (λ (R : Answer (Read Stmts)). turns (eval width t) (λ g v. ranOf R g v) (suc u) f u) e₂ in
-        e ∙ ap (stepAt (at + w .raw)) h₃ ∙ sym (ap (λ (R : Answer (Read Head)). whileDo at R f u) e₃)
+        let h₂ : r ≡ turns (eval frames v t) (λ g y. ranOf v (bodyFrom l s (at + w .raw) (at + w .used) (at + w .used + k)) g y) (suc u) f u = rw e₁ at h in
+        let h₃ : r ≡ doStmt frames v (while t xs) f u = h₂ ∙ ap (λ (R : Answer (Read Stmts)). turns (eval frames v t) (λ g y. ranOf v R g y) (suc u) f u) e₂ in
+        e ∙ ap (stepAt (at + w .raw)) h₃ ∙ sym (ap (λ (R : Answer (Read Head)). whileDo v at R f u) e₃)
 
 -- ## An If
 
@@ -310,52 +260,63 @@ module _ (l at : ℕ) (s : List ℕ) (acc : Accepts (readIf (readList l) 0 (drop
     pub if-else-acc : Accepts if-rest
     if-else-acc = if-open (λ t k xs q ys j e₁ le e₂ e₃ e₄. is-acc e₃)
 
-    module _ (f : Frame) (u : ℕ) (v : Evaled) (ev : v ≡ evaledBy (eval width) (at + w .used) if-term f) where
-      pub if-missing : (c : ℕ) → v .out ≡ Missing c → record { frame = v .frame; left = u; way = stop (refuses 23 c) } ≡ stepDo at (readIf (readList l) 0 (drop at s)) f u
+    module _ (b : ℕ) (f g : Frame) (u : ℕ) (v : Value) (ev : ran g 0 (valueSaid v) ≡ evaledBy (eval frames b) (at + w .used) if-term f) where
+      pub if-missing : (c : ℕ) → v ≡ Missing c → ran g u (refuses 23 c) ≡ stepDo b at (readIf (readList l) 0 (drop at s)) f u
       unfolding doStmt
       if-missing c h =
           if-open λ t k xs q ys j e₁ le e₂ e₃ e₄.
-          rw (e₄, ev-missing (eval width) (at + w .used) if-term f v ev t k e₁ c h)
+          rw (e₄, with-units frames b t f g _ (ev-missing (eval frames b) (at + w .used) if-term f g v ev t k e₁ c h) u)
 
-      module _ (x m : ℕ) (h : v .out ≡ Num x m) where
+      module _ (x m : ℕ) (h : v ≡ Num x m) where
         pub if-body : (m ≤ at + w .raw) × Accepts (readList l 0 (take (at + w .raw - m) (drop m s)))
         if-body =
             if-open λ t k xs q ys j e₁ le e₂ e₃ e₄.
-            let z = ev-num (eval width) (at + w .used) if-term f v ev t k e₁ x m h in
+            let z = ev-num (eval frames b) (at + w .used) if-term f g v ev t k e₁ x m h in
             rw (z .0) (le, is-acc e₂)
 
-        module _ (next : ℕ) (en : gives next ≡ upTo (at + w .raw) if-rest) (r : Ran) (z : Step) (ez : z ≡ stepAt next r) where
-          pub if-zero : x ≡ 0 → r ≡ ranOf if-rest (v .frame) u → z ≡ stepDo at (readIf (readList l) 0 (drop at s)) f u
+        module _ (next : ℕ) (en : gives next ≡ upTo (at + w .raw) if-rest) (r : Ran Frame Ended) (z : Ran Frame Way) (ez : z ≡ stepAt next r) where
+          next-is : (ys : Stmts) (j : ℕ) → if-rest ≡ reads ys j → next ≡ at + (w .raw + j)
+          next-is ys j e₃ =
+              let e : gives next ≡ gives (at + w .raw + j) = en ∙ ap (upTo (at + w .raw)) e₃ in
+              let q : next ≡ at + w .raw + j = cc in
+              omega arith
+
+          pub if-zero : x ≡ 0 → r ≡ ranOf b if-rest g u → z ≡ stepDo b at (readIf (readList l) 0 (drop at s)) f u
           unfolding doStmt
           if-zero e0 er =
               if-open λ t k xs q ys j e₁ le e₂ e₃ e₄.
-              let y = ev-num (eval width) (at + w .used) if-term f v ev t k e₁ x m h in
-              let en′ : gives next ≡ gives (at + w .raw + j) = en ∙ ap (upTo (at + w .raw)) e₃ in
-              let q₁ : next ≡ at + w .raw + j = cc in
-              let q₂ : next ≡ at + (w .raw + j) = omega arith in
-              rw (e₄, y .1, eq-eqb x 0 e0, ← q₂) (ez ∙ ap (stepAt next) (rw e₃ at er))
+              let y = ev-num (eval frames b) (at + w .used) if-term f g v ev t k e₁ x m h in
+              rw (e₄, with-units frames b t f g _ (y .1) u, eq-eqb x 0 e0, ← (next-is ys j e₃)) (ez ∙ ap (stepAt next) (rw e₃ at er))
 
-          pub if-true : (x ≡ 0 → ⊥) → r ≡ ranOf (readList l 0 (take (at + w .raw - m) (drop m s))) (v .frame) u → z ≡ stepDo at (readIf (readList l) 0 (drop at s)) f u
+          pub if-true : (x ≡ 0 → ⊥) → r ≡ ranOf b (readList l 0 (take (at + w .raw - m) (drop m s))) g u → z ≡ stepDo b at (readIf (readList l) 0 (drop at s)) f u
           unfolding doStmt
           if-true ne er =
               if-open λ t k xs q ys j e₁ le e₂ e₃ e₄.
-              let y = ev-num (eval width) (at + w .used) if-term f v ev t k e₁ x m h in
-              let en′ : gives next ≡ gives (at + w .raw + j) = en ∙ ap (upTo (at + w .raw)) e₃ in
-              let q₁ : next ≡ at + w .raw + j = cc in
-              let q₂ : next ≡ at + (w .raw + j) = omega arith in
-              let er₂ : r ≡ doStmts width xs (v .frame) u =
-              er ∙ ap (λ (i : ℕ). ranOf (readList l 0 (take (at + w .raw - i) (drop i s))) (v .frame) u) (y .0) ∙ ap (λ (R : Answer (Read Stmts)). ranOf R (v .frame) u) e₂ in
-              rw (e₄, y .1, ne-eqb x 0 ne, ← q₂) (ez ∙ ap (stepAt next) er₂)
+              let y = ev-num (eval frames b) (at + w .used) if-term f g v ev t k e₁ x m h in
+              let er₂ : r ≡ doStmts frames b xs g u =
+              er ∙ ap (λ (i : ℕ). ranOf b (readList l 0 (take (at + w .raw - i) (drop i s))) g u) (y .0) ∙ ap (λ (R : Answer (Read Stmts)). ranOf b R g u) e₂ in
+              rw (e₄, with-units frames b t f g _ (y .1) u, ne-eqb x 0 ne, ← (next-is ys j e₃)) (ez ∙ ap (stepAt next) er₂)
 
 -- ## Turns
 
-turns-suc : (p : Frame → Ev) (body : Frame → ℕ → Ran) (k : ℕ) (f : Frame) (u : ℕ) (x : Turn) → x ≡ oneTurn p body f u → 0 < k →
-    turns p body k f u ≡ afterTurn (x .frame) (x .left) (x .go) (turns p body (k - 1))
-unfolding turns
-turns-suc p body zero f u x e h = absurd (omega arith)
-turns-suc p body (suc k) f u x e h = let q : suc k - 1 ≡ k = omega arith in rw (e, q)
+turn-again : (o : Out) (f : Frame) (u : ℕ) → turnsOn o ≡ true → turnAt (ran f u (outSaid o)) ≡ ran f u (gives again)
+turn-again Finished f u e = refl
+turn-again (Returned n) f u e = absurd (let z : _≡_ {A = ℕ} 0 1 = cc in omega arith)
+turn-again BreakOut f u e = absurd (let z : _≡_ {A = ℕ} 0 1 = cc in omega arith)
+turn-again ContinueOut f u e = refl
+turn-again Spent f u e = absurd (let z : _≡_ {A = ℕ} 0 1 = cc in omega arith)
+turn-again (Unset c) f u e = absurd (let z : _≡_ {A = ℕ} 0 1 = cc in omega arith)
 
-module _ (l e at : ℕ) (s : List ℕ) (tok : TurnsOk l s e at (readTerm depthLimit 0 (drop at s))) where
+turn-over : (o : Out) (f : Frame) (u : ℕ) (k : Frame → ℕ → Ran Frame Ended) → turnsOn o ≡ false →
+    ran f u (outSaid (whileOut o)) ≡ thenDo (turnAt (ran f u (outSaid o))) (λ g t v. afterTurn g k t v)
+turn-over Finished f u k e = absurd (let z : _≡_ {A = ℕ} 0 1 = cc in omega arith)
+turn-over (Returned n) f u k e = refl
+turn-over BreakOut f u k e = refl
+turn-over ContinueOut f u k e = absurd (let z : _≡_ {A = ℕ} 0 1 = cc in omega arith)
+turn-over Spent f u k e = refl
+turn-over (Unset c) f u k e = refl
+
+module _ (l e at : ℕ) (s : List ℕ) (tok : TurnsOk l s e at (readTerm depthLimit 0 (drop at s))) (b : ℕ) where
   abbrev predicate : Answer (Read Term)
   predicate = readTerm depthLimit 0 (drop at s)
 
@@ -363,68 +324,73 @@ module _ (l e at : ℕ) (s : List ℕ) (tok : TurnsOk l s e at (readTerm depthLi
   turn-open {X} g = go predicate refl tok
     where
       go : (R : Answer (Read Term)) → predicate ≡ R → TurnsOk l s e at R → X
-      go (gives (read t k)) q h = g t k q (h .0) (h .1)
+      go (gives (took t k)) q h = g t k q (h .0) (h .1)
       go (refuses n p) q h = absurd h
 
   pub turn-term-acc : Accepts predicate
   turn-term-acc = turn-open (λ t k e₁ le a. is-acc e₁)
 
-  pub turn-none : (f : Frame) (u : ℕ) → u ≡ 0 → turned f 0 (ends (refuses 22 0)) ≡ turnOf l s e at predicate f u
+  pub turn-none : (f : Frame) (u : ℕ) → u ≡ 0 → ran f 0 (refuses 22 0) ≡ turnOf l s e at b predicate f u
   turn-none f u h = turn-open λ t k e₁ le a. rw (e₁, h)
 
-  module _ (f : Frame) (u w : ℕ) (eu : u ≡ suc w) (v : Evaled) (ev : v ≡ evaledBy (eval width) at predicate f) where
-    pub turn-missing : (c : ℕ) → v .out ≡ Missing c → turned (v .frame) w (ends (refuses 23 c)) ≡ turnOf l s e at predicate f u
+  module _ (f g : Frame) (u w : ℕ) (eu : u ≡ suc w) (v : Value) (ev : ran g 0 (valueSaid v) ≡ evaledBy (eval frames b) at predicate f) where
+    pub turn-missing : (c : ℕ) → v ≡ Missing c → ran g w (refuses 23 c) ≡ turnOf l s e at b predicate f u
     turn-missing c h =
         turn-open λ t k e₁ le a.
-        rw (e₁, eu, ev-missing (eval width) at predicate f v ev t k e₁ c h)
+        rw (e₁, eu, with-units frames b t f g _ (ev-missing (eval frames b) at predicate f g v ev t k e₁ c h) w)
 
-    module _ (x m : ℕ) (h : v .out ≡ Num x m) where
+    module _ (x m : ℕ) (h : v ≡ Num x m) where
       pub turn-body : (m ≤ e) × Accepts (readList l 0 (take (e - m) (drop m s)))
       turn-body =
           turn-open λ t k e₁ le a.
-          let y = ev-num (eval width) at predicate f v ev t k e₁ x m h in
+          let y = ev-num (eval frames b) at predicate f g v ev t k e₁ x m h in
           rw (y .0) (le, a)
 
-      pub turn-false : x ≡ 0 → turned (v .frame) w (ends (gives finished)) ≡ turnOf l s e at predicate f u
+      pub turn-false : x ≡ 0 → ran g w (gives (over finished)) ≡ turnOf l s e at b predicate f u
       turn-false e0 =
           turn-open λ t k e₁ le a.
-          let y = ev-num (eval width) at predicate f v ev t k e₁ x m h in
-          rw (e₁, eu, y .1, eq-eqb x 0 e0)
+          let y = ev-num (eval frames b) at predicate f g v ev t k e₁ x m h in
+          rw (e₁, eu, with-units frames b t f g _ (y .1) w, eq-eqb x 0 e0)
 
-      pub turn-true : (x ≡ 0 → ⊥) → (r : Ran) → r ≡ ranOf (readList l 0 (take (e - m) (drop m s))) (v .frame) w →
-          (z : Turn) → z ≡ turned (r .frame) (r .left) (goOf (r .end)) → z ≡ turnOf l s e at predicate f u
-      turn-true ne r er z ez =
+      pub turn-true : (x ≡ 0 → ⊥) → (r : Ran Frame Ended) → r ≡ ranOf b (readList l 0 (take (e - m) (drop m s))) g w → turnAt r ≡ turnOf l s e at b predicate f u
+      turn-true ne r er =
           turn-open λ t k e₁ le a.
-          let y = ev-num (eval width) at predicate f v ev t k e₁ x m h in
-          let er₂ : r ≡ ranOf (bodyFrom l s e at (at + k)) (v .frame) w = er ∙ ap (λ (i : ℕ). ranOf (readList l 0 (take (e - i) (drop i s))) (v .frame) w) (y .0) in
-          rw (e₁, eu, y .1, ne-eqb x 0 ne) (ez ∙ ap (λ (r : Ran). turned (r .frame) (r .left) (goOf (r .end))) er₂)
+          let y = ev-num (eval frames b) at predicate f g v ev t k e₁ x m h in
+          let er₂ : r ≡ ranOf b (bodyFrom l s e at (at + k)) g w = er ∙ ap (λ (i : ℕ). ranOf b (readList l 0 (take (e - i) (drop i s))) g w) (y .0) in
+          rw (e₁, eu, with-units frames b t f g _ (y .1) w, ne-eqb x 0 ne) (ap turnAt er₂)
 
-  abbrev by : ℕ → Frame → ℕ → Ran
-  by k f u = turnsBy l s e at predicate k f u
+  -- the turns from here on
+  abbrev by : Frame → ℕ → Ran Frame Ended
+  by f u = turnsBy l s e at b predicate f u
 
-  module _ (f : Frame) (u : ℕ) (x : Turn) (ex : x ≡ turnOf l s e at predicate f u) (k : ℕ) (lt : u < k) where
-    pub turns-again : x .go ≡ again → (x .left < u) × (by k f u ≡ by (k - 1) (x .frame) (x .left))
+  module _ (f g : Frame) (u v : ℕ) (o : Out) (eo : turnAt (ran g v (outSaid o)) ≡ turnOf l s e at b predicate f u) where
+    module _ (t : Term) (j : ℕ) (e₁ : predicate ≡ reads t j) where
+      abbrev body : Frame → ℕ → Ran Frame Ended
+      body h y = ranOf b (bodyFrom l s e at (at + j)) h y
+
+      is-turn : turnAt (ran g v (outSaid o)) ≡ oneTurn (eval frames b t) body f u
+      is-turn = rw e₁ at eo
+
+      by-turn : by f u ≡ thenDo (turnAt (ran g v (outSaid o))) (λ d h y. afterTurn d (λ i z. turns (eval frames b t) body (suc z) i z) h y)
+      by-turn =
+          rw e₁ (turns-next (eval frames b t) body (term-left frames b t) (λ h y. ran-left b (bodyFrom l s e at (at + j)) h y) (suc u) f u (omega arith) ∙ rw (← is-turn))
+
+    pub turns-again : turnsOn o ≡ true → (v < u) × (by f u ≡ by g v)
     turns-again h =
         turn-open λ t j e₁ le a.
-        let p = eval width t in
-        let bd : Frame → ℕ → Ran = (λ g w. ranOf (bodyFrom l s e at (at + j)) g w) in
-        let ex₂ : x ≡ oneTurn p bd f u = rw e₁ at ex in
-        let less : oneTurn p bd f u .left < u = turn-less p bd (λ g w. ran-left (bodyFrom l s e at (at + j)) g w) f u (sym (ap (λ (z : Turn). z .go) ex₂) ∙ h) in
-        let q : x .left ≡ oneTurn p bd f u .left = ap (λ (z : Turn). z .left) ex₂ in
-        (omega arith, rw e₁ (turns-suc p bd k f u x ex₂ (omega arith) ∙ rw h))
+        let q = turn-again o g v h in (
+          turn-less (eval frames b t) (body t j e₁) (term-left frames b t) (λ h y. ran-left b (bodyFrom l s e at (at + j)) h y) f g u v again (sym (is-turn t j e₁) ∙ q),
+          by-turn t j e₁ ∙ rw (q, e₁),
+        )
 
-    pub turns-end : (d : Answer Ended) → x .go ≡ ends d → record { frame = x .frame; left = x .left; end = d } ≡ by k f u
-    turns-end d h =
-        turn-open λ t j e₁ le a.
-        let bd : Frame → ℕ → Ran = (λ g w. ranOf (bodyFrom l s e at (at + j)) g w) in
-        let ex₂ : x ≡ oneTurn (eval width t) bd f u = rw e₁ at ex in
-        rw e₁ (sym (turns-suc (eval width t) bd k f u x ex₂ (omega arith) ∙ rw h))
+    pub turns-end : (x : Out) → x ≡ whileOut o → turnsOn o ≡ false → ran g v (outSaid x) ≡ by f u
+    turns-end x q h = turn-open λ t j e₁ le a. rw q (turn-over o g v _ h ∙ sym (by-turn t j e₁))
 
 -- ## A statement by its opcode
 
-of-do : (at : ℕ) (R : Answer (Read Stmt)) (f : Frame) (u w : ℕ) (x : Step) → Accepts R → u ≡ suc w → x ≡ stepDo at R f w → x ≡ stepOf at R f u
-of-do at (gives (read y k)) f u w x acc e h = rw e h
-of-do at (refuses n p) f u w x acc e h = absurd acc
+of-do : (b at : ℕ) (R : Answer (Read Stmt)) (f : Frame) (u w : ℕ) (x : Ran Frame Way) → Accepts R → u ≡ suc w → x ≡ stepDo b at R f w → x ≡ stepOf b at R f u
+of-do b at (gives (took y k)) f u w x acc e h = rw e h
+of-do b at (refuses n p) f u w x acc e h = absurd acc
 
 module _ (l at : ℕ) (s : List ℕ) (lt : at < length s) (acc : Accepts (readStmt l 0 (drop at s))) where
   pub stmt-left : 0 < l
@@ -435,8 +401,11 @@ module _ (l at : ℕ) (s : List ℕ) (lt : at < length s) (acc : Accepts (readSt
       go zero h = absurd h
       go (suc l) h = omega arith
 
-  pub no-unit : (f : Frame) (u : ℕ) → u ≡ 0 → record { frame = f; left = 0; way = stop (refuses 22 0) } ≡ stepOf at (readStmt l 0 (drop at s)) f u
-  no-unit f u e = acc-ok (readStmt l 0 (drop at s)) acc λ x k e₁. rw (e₁, e)
+  pub stmt-ready : length s ≤ blockLimit → StmtReady s at l
+  stmt-ready h = record { short = h; inside = lt; deep = stmt-left; reads = acc }
+
+  pub no-unit : (b : ℕ) (f : Frame) (u : ℕ) → u ≡ 0 → ran f 0 (refuses 22 0) ≡ stepOf b at (readStmt l 0 (drop at s)) f u
+  no-unit b f u e = acc-ok (readStmt l 0 (drop at s)) acc λ x k e₁. rw (e₁, e)
 
   module _ (r o : StmtOp) (e : r ≡ stmtOp (getD s at 0)) (q : r ≡ o) where
     abbrev reading : Answer (Read Stmt)
@@ -445,59 +414,63 @@ module _ (l at : ℕ) (s : List ℕ) (lt : at < length s) (acc : Accepts (readSt
     pub op-acc : Accepts reading
     op-acc = acc-same (stmt-is-by l 0 at s r o stmt-left lt e q) acc
 
-    pub run-arm : (f : Frame) (u : ℕ) (x : Step) → (u ≡ 0 → ⊥) → x ≡ stepDo at reading f (u - 1) → x ≡ stepOf at (readStmt l 0 (drop at s)) f u
-    run-arm f u x ne h =
+    pub run-arm : (b : ℕ) (f : Frame) (u : ℕ) (x : Ran Frame Way) → (u ≡ 0 → ⊥) → x ≡ stepDo b at reading f (u - 1) → x ≡ stepOf b at (readStmt l 0 (drop at s)) f u
+    run-arm b f u x ne h =
         let z : u ≡ suc (u - 1) = omega arith in
-        of-do at reading f u (u - 1) x op-acc z h ∙ sym (ap (λ (R : Answer (Read Stmt)). stepOf at R f u) (stmt-is-by l 0 at s r o stmt-left lt e q))
+        of-do b at reading f u (u - 1) x op-acc z h ∙ sym (ap (λ (R : Answer (Read Stmt)). stepOf b at R f u) (stmt-is-by l 0 at s r o stmt-left lt e q))
 
 -- the small answers, with the frame beside them
-pub finished-at : (f : Frame) (next : ℕ) (r : Done) (x : Moved) → x ≡ movedTo next r → stepF f x ≡ stepAt next (record { frame = f; left = r .units; end = outSaid (r .out) })
+pub finished-at : (f : Frame) (next : ℕ) (r : Done) (x : Moved) → x ≡ movedTo next r → stepF f x ≡ stepAt next (ran f (r .units) (outSaid (r .out)))
 finished-at f next r x e = ap (stepF f) e
 
-plain-to : (f : Frame) (u at : ℕ) (o : Plain) → stepF f (plainTo o u (at + 1)) ≡ stepAt (at + 1) (ended f u (gives (plainEnd o)))
+plain-to : (f : Frame) (u at : ℕ) (o : Plain) → stepF f (plainTo o u (at + 1)) ≡ stepAt (at + 1) (ran f u (gives (plainEnd o)))
 plain-to f u at Break = refl
 plain-to f u at Continue = refl
 plain-to f u at BreakPoint = refl
 plain-to f u at Noop = refl
 
-pub plain-do : (at : ℕ) (f : Frame) (u : ℕ) (o : Plain) (x : Moved) → x ≡ plainTo o u (at + 1) → stepF f x ≡ stepDo at (reads (plain o) 1) f u
+pub plain-do : (b at : ℕ) (f : Frame) (u : ℕ) (o : Plain) (x : Moved) → x ≡ plainTo o u (at + 1) → stepF f x ≡ stepDo b at (reads (plain o) 1) f u
 unfolding doStmt
-plain-do at f u o x e = ap (stepF f) e ∙ plain-to f u at o
+plain-do b at f u o x e = ap (stepF f) e ∙ plain-to f u at o
 
-abbrev pub returned-by : Evaled → ℕ → Step
-returned-by v u = stepF (v .frame) (returnTo (v .out) u)
+-- a statement of one term: its value, and then the end
+module _ (b : ℕ) (f g : Frame) (u at n : ℕ) (R : Answer (Read Term)) (v : Value) (ev : ran g 0 (valueSaid v) ≡ evaledBy (eval frames b) at R f) (t : Term) (k : ℕ) (e : R ≡ reads t k) where
+  return-ran : stepF g (returnTo v u) ≡ stepAt n (doStmt frames b (return t) f u)
+  unfolding doStmt
+  return-ran = go v refl
+    where
+      go : (z : Value) → v ≡ z → stepF g (returnTo z u) ≡ stepAt n (thenDo (eval frames b t f u) (λ n t v. ran t v (gives (returned n))))
+      go (Num x m) h = rw (with-units frames b t f g _ (ev-num (eval frames b) at R f g v ev t k e x m h .1) u)
+      go (Missing c) h = rw (with-units frames b t f g _ (ev-missing (eval frames b) at R f g v ev t k e c h) u)
 
-abbrev pub dropped-by : Evaled → ℕ → Step
-dropped-by v u = stepF (v .frame) (dropTo (v .out) u)
-
-ret-ev : (m n u : ℕ) (v : Ev) → returned-by (evAt m v) u ≡ stepAt n (test v u (λ x g. ended g u (gives (returned x))))
-ret-ev m n u (got x g) = refl
-ret-ev m n u (lacks c g) = refl
-
-expr-ev : (m u : ℕ) (v : Ev) → dropped-by (evAt m v) u ≡ stepAt m (test v u (λ x g. ended g u (gives finished)))
-expr-ev m u (got x g) = refl
-expr-ev m u (lacks c g) = refl
+  expr-ran : stepF g (dropTo v u) ≡ stepAt (at + k) (doStmt frames b (expr t) f u)
+  unfolding doStmt
+  expr-ran = go v refl
+    where
+      go : (z : Value) → v ≡ z → stepF g (dropTo z u) ≡ stepAt (at + k) (thenDo (eval frames b t f u) (λ n t v. ran t v (gives finished)))
+      go (Num x m) h =
+          let y = ev-num (eval frames b) at R f g v ev t k e x m h in
+          rw (with-units frames b t f g _ (y .1) u, y .0)
+      go (Missing c) h = rw (with-units frames b t f g _ (ev-missing (eval frames b) at R f g v ev t k e c h) u)
 
 -- what stands behind the opcode is read at place 1, and was run at place 0
-module _ (at : ℕ) (s : List ℕ) (f : Frame) (u : ℕ) (x : Step) where
+module _ (b at : ℕ) (s : List ℕ) (f : Frame) (u : ℕ) where
   pub ret-acc : Accepts (thenRead (readTerm depthLimit 1 s) (λ t k. reads (return t) (suc k))) → Accepts (readTerm depthLimit 0 s)
   ret-acc acc = acc-ok (readTerm depthLimit 1 s) (acc-then (readTerm depthLimit 1 s) _ acc) λ t k e. is-acc (term-any depthLimit 1 0 s t k e)
 
-  pub ret-do : (v : Evaled) → Accepts (readTerm depthLimit 0 s) → v ≡ evaledBy (eval width) (at + 1) (readTerm depthLimit 0 s) f → x ≡ returned-by v u →
-      x ≡ stepDo at (thenRead (readTerm depthLimit 1 s) (λ t k. reads (return t) (suc k))) f u
-  unfolding doStmt
-  ret-do v acc ev h =
+  pub ret-do : (g : Frame) (v : Value) (x : Moved) → Accepts (readTerm depthLimit 0 s) → ran g 0 (valueSaid v) ≡ evaledBy (eval frames b) (at + 1) (readTerm depthLimit 0 s) f →
+      x ≡ returnTo v u → stepF g x ≡ stepDo b at (thenRead (readTerm depthLimit 1 s) (λ t k. reads (return t) (suc k))) f u
+  ret-do g v x acc ev h =
       acc-ok (readTerm depthLimit 0 s) acc λ t k e.
-      rw (term-any depthLimit 0 1 s t k e)
-      (h ∙ ap (λ (z : Evaled). returned-by z u) (ev ∙ ap (λ (R : Answer (Read Term)). evaledBy (eval width) (at + 1) R f) e) ∙ ret-ev (at + 1 + k) (at + suc k) u (eval width t f))
+      rw (term-any depthLimit 0 1 s t k e) (ap (stepF g) h ∙ return-ran b f g u (at + 1) (at + suc k) (readTerm depthLimit 0 s) v ev t k e)
 
   module _ (l : ℕ) where
     pub if-acc : Accepts (thenRead (readIf (readList l) 1 s) (λ y k. reads y (suc k))) → Accepts (readIf (readList l) 0 s)
     if-acc acc = acc-ok (readIf (readList l) 1 s) (acc-then (readIf (readList l) 1 s) _ acc) λ y k e. is-acc (if-any l 1 0 s y k e)
 
-    pub if-do : Accepts (readIf (readList l) 0 s) → x ≡ stepDo (at + 1) (readIf (readList l) 0 s) f u →
-        x ≡ stepDo at (thenRead (readIf (readList l) 1 s) (λ y k. reads y (suc k))) f u
-    if-do acc h =
+    pub if-do : (x : Ran Frame Way) → Accepts (readIf (readList l) 0 s) → x ≡ stepDo b (at + 1) (readIf (readList l) 0 s) f u →
+        x ≡ stepDo b at (thenRead (readIf (readList l) 1 s) (λ y k. reads y (suc k))) f u
+    if-do x acc h =
         acc-ok (readIf (readList l) 0 s) acc λ y k e.
         let q : at + 1 + k ≡ at + suc k = omega arith in
         rw (if-any l 0 1 s y k e) (h ∙ rw (e, q))
@@ -505,28 +478,20 @@ module _ (at : ℕ) (s : List ℕ) (f : Frame) (u : ℕ) (x : Step) where
     pub while-acc : Accepts (thenRead (readHead (readList l) 1 s) (λ h k. reads (whileOf h) (suc k))) → Accepts (readHead (readList l) 0 s)
     while-acc acc = acc-ok (readHead (readList l) 1 s) (acc-then (readHead (readList l) 1 s) _ acc) λ y k e. is-acc (head-any l 1 0 s y k e)
 
-    pub while-do : Accepts (readHead (readList l) 0 s) → x ≡ whileDo (at + 1) (readHead (readList l) 0 s) f u →
-        x ≡ stepDo at (thenRead (readHead (readList l) 1 s) (λ h k. reads (whileOf h) (suc k))) f u
-    while-do acc h =
+    pub while-do : (x : Ran Frame Way) → Accepts (readHead (readList l) 0 s) → x ≡ whileDo b (at + 1) (readHead (readList l) 0 s) f u →
+        x ≡ stepDo b at (thenRead (readHead (readList l) 1 s) (λ h k. reads (whileOf h) (suc k))) f u
+    while-do x acc h =
         acc-ok (readHead (readList l) 0 s) acc λ y k e.
         let q : at + 1 + k ≡ at + suc k = omega arith in
         rw (head-any l 0 1 s y k e) (h ∙ rw (e, q))
 
 -- an expression starts with its own opcode
-module _ (at : ℕ) (s : List ℕ) (lt : at < length s) (acc : Accepts (readExpr 0 (getD s at 0 ∷ drop (at + 1) s))) where
-  expr-is : expression (termOp (getD s at 0)) ≡ true
-  expr-is = acc-ok (readExpr 0 (getD s at 0 ∷ drop (at + 1) s)) acc λ x k e. pick-ok (expression (termOp (getD s at 0))) _ 3 0 e .0
-
-  expr-eq : readExpr 0 (getD s at 0 ∷ drop (at + 1) s) ≡ thenRead (readTerm depthLimit 0 (drop at s)) (λ t k. reads (expr t) k)
-  expr-eq = rw (expr-is, here s at lt)
-
+module _ (at : ℕ) (s : List ℕ) (lt : at < length s) (acc : Accepts (thenRead (readTerm depthLimit 0 (getD s at 0 ∷ drop (at + 1) s)) (λ t k. reads (expr t) k))) where
   pub expr-acc : Accepts (readTerm depthLimit 0 (drop at s))
-  expr-acc = acc-then (readTerm depthLimit 0 (drop at s)) _ (acc-same expr-eq acc)
+  expr-acc = rw (here s at lt) (acc-then (readTerm depthLimit 0 (getD s at 0 ∷ drop (at + 1) s)) _ acc)
 
-  pub expr-do : (f : Frame) (u : ℕ) (v : Evaled) (x : Step) → v ≡ evaledBy (eval width) at (readTerm depthLimit 0 (drop at s)) f → x ≡ dropped-by v u →
-      x ≡ stepDo at (readExpr 0 (getD s at 0 ∷ drop (at + 1) s)) f u
-  unfolding doStmt
-  expr-do f u v x ev h =
+  pub expr-do : (b : ℕ) (f g : Frame) (u : ℕ) (v : Value) (x : Moved) → ran g 0 (valueSaid v) ≡ evaledBy (eval frames b) at (readTerm depthLimit 0 (drop at s)) f →
+      x ≡ dropTo v u → stepF g x ≡ stepDo b at (thenRead (readTerm depthLimit 0 (getD s at 0 ∷ drop (at + 1) s)) (λ t k. reads (expr t) k)) f u
+  expr-do b f g u v x ev h =
       acc-ok (readTerm depthLimit 0 (drop at s)) expr-acc λ t k e.
-      rw (expr-eq, e)
-      (h ∙ ap (λ (z : Evaled). dropped-by z u) (ev ∙ ap (λ (R : Answer (Read Term)). evaledBy (eval width) at R f) e) ∙ expr-ev (at + k) u (eval width t f))
+      rw (rw (here s at lt) at e) (ap (stepF g) h ∙ expr-ran b f g u at 0 (readTerm depthLimit 0 (drop at s)) v ev t k e)

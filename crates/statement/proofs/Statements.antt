@@ -11,11 +11,11 @@ use borrow.Author.Tests.{eqb-true, leb-true, le-leb}
 use Rattle.pkg_length.specs.Refusal.{Answer, gives}
 use Rattle.pkg_length.specs.Pkg.{Raw}
 use Rattle.statement.specs.declared.opcode.StmtOp.{StmtOp}
-use Rattle.statement.specs.declared.opcode.StmtOp.the-variants.{Simple, Return, If, While, Expr}
-use Rattle.statement.specs.Opcode.{termOp, stmtOp, look, expression}
+use Rattle.statement.specs.declared.opcode.StmtOp.the-variants.{Simple, Return, If, While, Expr, BadStmt}
+use Rattle.statement.specs.Opcode.{termOp, stmtOp, look}
 use Rattle.statement.specs.Tree.{Term, Stmt, ifElse, expr, Stmts, nil, cons}
 use Rattle.statement.specs.Grammar.{depthLimit, DTerm, DStmt, d-plain, d-return, d-if, d-while, d-expr, DHead, d-head, DElse, d-none, d-else, DStmts, d-nil, d-cons}
-use Rattle.statement.specs.Reader.{Read, reads, readTerm, readPackage, Head, head, ifOf, whileOf, readExpr, readHead, elseBy, readElse, readIf, stmtBy, listBy, readStmt, readList}
+use Rattle.statement.specs.Reader.{Read, reads, readTerm, readPackage, Head, head, ifOf, whileOf, readHead, elseBy, readElse, readIf, stmtBy, listBy, readStmt, readList}
 use Rattle.statement.proofs.Answers.{never, then-by, and-by, pick-ok, Follows, Takes, as-follows, as-takes}
 use Rattle.pkg_length.proofs.Packages.{Packs}
 use Rattle.pkg_length.specs.Package.{Package}
@@ -115,15 +115,9 @@ module _ (list : ℕ → List ℕ → Answer (Read Stmts)) (l : ℕ) (hb : ListS
   while-stmt : (b : ℕ) (h : Head) (w : List ℕ) → stmtOp b ≡ While → HeadBytes h w → DStmt (suc l) (whileOf h) (b ∷ w)
   while-stmt b (head t xs) w o d = d-while o d
 
-  expr-takes : (p b : ℕ) (s : List ℕ) (x : Stmt) (k : ℕ) → stmtOp b ≡ Expr → readExpr p (b ∷ s) ≡ reads x k → Takes (DStmt (suc l) x) (b ∷ s) k
-  expr-takes p b s x k o e =
-      let (t, f) = pick-ok (expression (termOp b)) _ 3 p e in
-      then-by (readTerm depthLimit p (b ∷ s)) _ f λ u j e₁ e₂.
-      as-takes (DStmt (suc l)) e₂ (go u j (term-sound depthLimit p (b ∷ s) u j e₁) t)
-    where
-      go : (u : Term) (j : ℕ) → Takes (DTerm depthLimit u) (b ∷ s) j → expression (termOp b) ≡ true → Takes (DStmt (suc l) (expr u)) (b ∷ s) j
-      go u zero h t = absurd (let z : 0 < 0 = h .some in omega arith)
-      go u (suc j) h t = record { some = h .some; fits = h .fits; derives = d-expr o t (h .derives) }
+  expr-takes : (b : ℕ) (s : List ℕ) (u : Term) (j : ℕ) → stmtOp b ≡ Expr → Takes (DTerm depthLimit u) (b ∷ s) j → Takes (DStmt (suc l) (expr u)) (b ∷ s) j
+  expr-takes b s u zero o h = absurd (let z : 0 < 0 = h .some in omega arith)
+  expr-takes b s u (suc j) o h = record { some = h .some; fits = h .fits; derives = d-expr o (h .derives) }
 
   stmt-by : (p : ℕ) (s : List ℕ) (x : Stmt) (k b : ℕ) (o : StmtOp) → stmtOp b ≡ o → stmtBy list b p s o ≡ reads x k → Takes (DStmt (suc l) x) (b ∷ s) k
   stmt-by p s x k b (Simple y) o e = as-takes (DStmt (suc l)) e (record { some = omega arith; fits = omega arith; derives = d-plain o })
@@ -139,7 +133,10 @@ module _ (list : ℕ → List ℕ → Answer (Read Stmts)) (l : ℕ) (hb : ListS
       then-by (readHead list (suc p) s) _ e λ h n e₁ e₂.
       let g : Takes (HeadBytes h) s n = head-sound (suc p) s h n e₁ in
       as-takes (DStmt (suc l)) e₂ (record { some = omega arith; fits = omega (arith, g .fits); derives = while-stmt b h (take n s) o (g .derives) })
-  stmt-by p s x k b Expr o e = expr-takes p b s x k o e
+  stmt-by p s x k b Expr o e =
+      then-by (readTerm depthLimit p (b ∷ s)) _ e λ u j e₁ e₂.
+      as-takes (DStmt (suc l)) e₂ (expr-takes b s u j o (term-sound depthLimit p (b ∷ s) u j e₁))
+  stmt-by p s x k b BadStmt o e = never e
 
 pub stmt-sound : (l : ℕ) → StmtSound (readStmt l) l
 unfolding readStmt
@@ -158,28 +155,21 @@ pub starts-else : List ℕ → Bool
 starts-else [] = false
 starts-else (b ∷ s) = eqb b 0xA1
 
--- that byte would start an expression, and starts no term
-not-else : (b : ℕ) (o : StmtOp) → stmtOp b ≡ o → (o ≡ Expr → expression (termOp b) ≡ true) → eqb b 0xA1 ≡ false
+not-else : (b : ℕ) (o : StmtOp) → stmtOp b ≡ o → (o ≡ BadStmt → ⊥) → eqb b 0xA1 ≡ false
 unfolding stmtOp termOp look
 not-else b o e h = go (eqb b 0xA1) refl
   where
     go : (t : Bool) → eqb b 0xA1 ≡ t → eqb b 0xA1 ≡ false
     go false q = q
-    go true q = absurd (
-        let r : b ≡ 0xA1 = eqb-true b 0xA1 q in
-        let f : Expr ≡ o = rw r at e in
-        let g : false ≡ true = rw r at (h (sym f)) in
-        let z : _≡_ {A = ℕ} 0 1 = cc in
-        omega arith
-        )
+    go true q = absurd (h (let r : b ≡ 0xA1 = eqb-true b 0xA1 q in sym (rw r at e)))
 
 stmt-starts : {l : ℕ} {x : Stmt} {s : List ℕ} → DStmt l x s → (r : List ℕ) → starts-else (s ++ r) ≡ false
 unfolding starts-else
-stmt-starts (d-plain {b = b} {o = o} e) r = not-else b (Simple o) e (λ q. absurd (let z : _≡_ {A = ℕ} 0 1 = cc in omega arith))
-stmt-starts (d-return {b = b} e d) r = not-else b Return e (λ q. absurd (let z : _≡_ {A = ℕ} 0 1 = cc in omega arith))
-stmt-starts (d-if {b = b} e d f) r = not-else b If e (λ q. absurd (let z : _≡_ {A = ℕ} 0 1 = cc in omega arith))
-stmt-starts (d-while {b = b} e d) r = not-else b While e (λ q. absurd (let z : _≡_ {A = ℕ} 0 1 = cc in omega arith))
-stmt-starts (d-expr {b = b} e x d) r = not-else b Expr e (λ q. x)
+stmt-starts (d-plain {b = b} {o = o} e) r = not-else b (Simple o) e (λ q. let z : _≡_ {A = ℕ} 0 1 = cc in omega arith)
+stmt-starts (d-return {b = b} e d) r = not-else b Return e (λ q. let z : _≡_ {A = ℕ} 0 1 = cc in omega arith)
+stmt-starts (d-if {b = b} e d f) r = not-else b If e (λ q. let z : _≡_ {A = ℕ} 0 1 = cc in omega arith)
+stmt-starts (d-while {b = b} e d) r = not-else b While e (λ q. let z : _≡_ {A = ℕ} 0 1 = cc in omega arith)
+stmt-starts (d-expr {b = b} e d) r = not-else b Expr e (λ q. let z : _≡_ {A = ℕ} 0 1 = cc in omega arith)
 
 stmts-starts : {l : ℕ} {xs : Stmts} {s : List ℕ} → DStmts l xs s → starts-else s ≡ false
 unfolding starts-else
@@ -191,14 +181,14 @@ stmt-some (d-plain e) = omega arith
 stmt-some (d-return e d) = omega arith
 stmt-some (d-if e d f) = omega arith
 stmt-some (d-while e d) = omega arith
-stmt-some (d-expr e x d) = omega arith
+stmt-some (d-expr e d) = omega arith
 
 deep : {l : ℕ} {x : Stmt} {s : List ℕ} → DStmt l x s → 0 < l
 deep (d-plain e) = omega arith
 deep (d-return e d) = omega arith
 deep (d-if e d f) = omega arith
 deep (d-while e d) = omega arith
-deep (d-expr e x d) = omega arith
+deep (d-expr e d) = omega arith
 
 skip : (st : ℕ → List ℕ → Answer (Read Stmt)) (p : ℕ) (s b : List ℕ) → listBy st (length s) p (s ++ b) ≡ listBy st 0 (p + length s) b
 unfolding listBy
@@ -276,7 +266,7 @@ stmt-complete-suc l h _ _ (d-return o d) p r e = rw (o, term-complete d (suc p) 
 stmt-complete-suc l h _ _ (d-if {w = w} {e = v} o d de) p r e =
     rw (o, append-assoc w v r, head-complete l h d (suc p) (v ++ r), drop-append-seam w (v ++ r), else-complete l h de (suc p + length w) r e, length-append w v)
 stmt-complete-suc l h _ _ (d-while o d) p r e = rw (o, head-complete l h d (suc p) r)
-stmt-complete-suc l h _ _ (d-expr o x d) p r e = rw (o, x, term-complete d p r)
+stmt-complete-suc l h _ _ (d-expr o d) p r e = rw (o, term-complete d p r)
 
 pub stmt-complete : (l : ℕ) → StmtComplete l
 stmt-complete zero x s d p r e = absurd (let h : 0 < 0 = deep d in omega arith)

@@ -7,7 +7,7 @@ use native.Mathlib.Omega.{arith}
 use lib.Dec.{leb, eqb}
 use borrow.Author.Tests.{leb-true, le-leb}
 use Rattle.statement.specs.declared.opcode.TermOp.{TermOp}
-use Rattle.statement.specs.declared.opcode.TermOp.the-variants.{Constant, Ones, Bytes, Cell, Step, One, Two, BadTerm}
+use Rattle.statement.specs.declared.opcode.TermOp.the-variants.{Constant, Bytes, Cell, Step, One, Two, BadTerm}
 use Rattle.statement.specs.Opcode.{isCell, Row, row, look, termRows, termOp}
 use Rattle.statement.specs.Grammar.{cells}
 use Rattle.statement.proofs.Answers.{pick-by}
@@ -49,7 +49,6 @@ cell-op c h = rw (cell-is (0x60 + c) (omega arith) (omega arith)) (ap Cell (omeg
 
 other-op : TermOp → Bool
 other-op (Constant n) = true
-other-op Ones = true
 other-op (Bytes n) = leb n 8
 other-op (Cell c) = false
 other-op (Step o) = true

@@ -13,32 +13,32 @@ use Rattle.pkg_length.specs.Little.{little}
 use Rattle.statement.specs.declared.opcode.Dest.{Dest}
 use Rattle.statement.specs.declared.opcode.Dest.the-variants.{Nowhere, ToCell, ToTarget}
 use Rattle.statement.specs.declared.opcode.TermOp.{TermOp}
-use Rattle.statement.specs.declared.opcode.TermOp.the-variants.{Constant, Ones, Bytes, Cell, Step, One, Two, BadTerm}
+use Rattle.statement.specs.declared.opcode.TermOp.the-variants.{Constant, Bytes, Cell, Step, One, Two, BadTerm}
 use Rattle.statement.specs.Opcode.{isCell, termOp}
-use Rattle.statement.specs.Tree.{Target, nowhere, to, Term, const, cell}
-use Rattle.statement.specs.Grammar.{DCell, d-cell, DDest, d-nowhere, d-to-cell, d-null, d-target, DTerm, d-constant, d-ones, d-bytes, d-read, d-step, d-one, d-two}
-use Rattle.statement.specs.Reader.{Read, reads, thenRead, readBytes, readCell, readTarget, readDest, Operand, operand, Operands, operands, before, readOne, readTwo, oneOf, twoOf, termBy, readTerm}
+use Rattle.statement.specs.Tree.{Place, cell, Target, nowhere, to, Term, const, read}
+use Rattle.statement.specs.Grammar.{DPlace, d-cell, DDest, d-nowhere, d-to-cell, d-null, d-target, DTerm, d-constant, d-bytes, d-read, d-step, d-one, d-two}
+use Rattle.statement.specs.Reader.{Read, reads, thenRead, readBytes, readPlace, readTarget, readDest, Operand, operand, Operands, operands, before, readOne, readTwo, oneOf, twoOf, termBy, readTerm}
 use Rattle.statement.proofs.Answers.{never, then-by, pick-ok, Follows, Takes, as-follows, as-takes}
 use Rattle.statement.proofs.Tables.{is-cell, cell-is, cell-op, op-cell}
 
 -- ## Sound: what is read, the grammar derives
 
-cell-byte : (b : ℕ) → isCell b ≡ true → DCell (b - 0x60) (b ∷ [])
+cell-byte : (b : ℕ) → isCell b ≡ true → DPlace (cell (b - 0x60)) (b ∷ [])
 cell-byte b e =
     let r = is-cell b e in
     let q : 0x60 + (b - 0x60) ≡ b = omega (arith, r) in
-    subst (λ (x : ℕ). DCell (b - 0x60) (x ∷ [])) q (d-cell (omega (arith, r)))
+    subst (λ (x : ℕ). DPlace (cell (b - 0x60)) (x ∷ [])) q (d-cell (omega (arith, r)))
 
-pub cell-sound : (p : ℕ) (s : List ℕ) (c k : ℕ) → readCell p s ≡ reads c k → Takes (DCell c) s k
+pub cell-sound : (p : ℕ) (s : List ℕ) (c : Place) (k : ℕ) → readPlace p s ≡ reads c k → Takes (DPlace c) s k
 cell-sound p [] c k e = never e
 cell-sound p (b ∷ s) c k e =
     let (t, f) = pick-ok (isCell b) _ 3 p e in
-    as-takes DCell f (record { some = omega arith; fits = omega arith; derives = cell-byte b t })
+    as-takes DPlace f (record { some = omega arith; fits = omega arith; derives = cell-byte b t })
 
-to-cell : (d : Dest) → ((c : ℕ) (w : List ℕ) → DCell c w → DDest d (to c) w) → (p : ℕ) (s : List ℕ) (x : Target) (k : ℕ) →
-    thenRead (readCell p s) (λ c k. reads (to c) k) ≡ reads x k → Follows (DDest d x) s k
+to-cell : (d : Dest) → ((c : Place) (w : List ℕ) → DPlace c w → DDest d (to c) w) → (p : ℕ) (s : List ℕ) (x : Target) (k : ℕ) →
+    thenRead (readPlace p s) (λ c k. reads (to c) k) ≡ reads x k → Follows (DDest d x) s k
 to-cell d make p s x k e =
-    then-by (readCell p s) _ e λ c j e₁ e₂.
+    then-by (readPlace p s) _ e λ c j e₁ e₂.
     let h = cell-sound p s c j e₁ in
     as-follows (DDest d) e₂ (record { fits = h .fits; derives = make c (take j s) (h .derives) })
 
@@ -46,7 +46,7 @@ target-sound : (p : ℕ) (s : List ℕ) (x : Target) (k : ℕ) → readTarget p 
 target-sound p [] x k e = never e
 target-sound p (b ∷ s) x k e = go (eqb b 0) refl e
   where
-    go : (t : Bool) → eqb b 0 ≡ t → cond t (reads nowhere 1) (thenRead (readCell p (b ∷ s)) (λ c k. reads (to c) k)) ≡ reads x k → Follows (DDest ToTarget x) (b ∷ s) k
+    go : (t : Bool) → eqb b 0 ≡ t → cond t (reads nowhere 1) (thenRead (readPlace p (b ∷ s)) (λ c k. reads (to c) k)) ≡ reads x k → Follows (DDest ToTarget x) (b ∷ s) k
     go true q f = as-follows (DDest ToTarget) f (record { fits = omega arith; derives = rw (eqb-true b 0 q) d-null })
     go false q f = to-cell ToTarget (λ c w. d-target) p (b ∷ s) x k f
 
@@ -116,21 +116,20 @@ bytes-takes l p b s t k n o e =
     record { some = omega arith; fits = omega arith; derives = d-bytes {b = b} {s = take n s} (rw m o) } in
     subst₂ (λ (z : Term) (i : ℕ). Takes (DTerm (suc l) z) (b ∷ s) (suc i)) x y g
 
-cell-takes : (l b c : ℕ) (s : List ℕ) → termOp b ≡ Cell c → Takes (DTerm (suc l) (cell c)) (b ∷ s) 1
+cell-takes : (l b c : ℕ) (s : List ℕ) → termOp b ≡ Cell c → Takes (DTerm (suc l) (read (cell c))) (b ∷ s) 1
 cell-takes l b c s o =
     let r = op-cell b c o in
-    record { some = omega arith; fits = omega arith; derives = d-read {c = c} {s = b ∷ []} (rw (r .1) (cell-byte b (r .0))) }
+    record { some = omega arith; fits = omega arith; derives = d-read {x = cell c} {s = b ∷ []} (rw (r .1) (cell-byte b (r .0))) }
 
 term-by : (term : ℕ → List ℕ → Answer (Read Term)) (l : ℕ) → TermSound term l → (p b : ℕ) (s : List ℕ) (t : Term) (k : ℕ) (o : TermOp) →
     termOp b ≡ o → termBy term p s o ≡ reads t k → Takes (DTerm (suc l) t) (b ∷ s) k
 term-by term l ih p b s t k (Constant n) o e = as-takes (DTerm (suc l)) e (record { some = omega arith; fits = omega arith; derives = d-constant o })
-term-by term l ih p b s t k Ones o e = as-takes (DTerm (suc l)) e (record { some = omega arith; fits = omega arith; derives = d-ones o })
 term-by term l ih p b s t k (Bytes n) o e =
     then-by (readBytes n (suc p) s) _ e λ u j e₁ e₂.
     as-takes (DTerm (suc l)) e₂ (bytes-takes l p b s u j n o e₁)
 term-by term l ih p b s t k (Cell c) o e = as-takes (DTerm (suc l)) e (cell-takes l b c s o)
 term-by term l ih p b s t k (Step x) o e =
-    then-by (readCell (suc p) s) _ e λ c j e₁ e₂.
+    then-by (readPlace (suc p) s) _ e λ c j e₁ e₂.
     as-takes (DTerm (suc l)) e₂ (next (λ w. d-step o) (cell-sound (suc p) s c j e₁))
 term-by term l ih p b s t k (One x d) o e =
     then-by (readOne term d (suc p) s) _ e λ y j e₁ e₂.
@@ -148,11 +147,11 @@ term-sound (suc l) p (b ∷ s) t k e = term-by (readTerm l) l (term-sound l) p b
 
 -- ## Complete: what the grammar derives is read, whatever follows
 
-cell-complete : {c : ℕ} {s : List ℕ} → DCell c s → (p : ℕ) (r : List ℕ) → readCell p (s ++ r) ≡ reads c (length s)
+cell-complete : {c : Place} {s : List ℕ} → DPlace c s → (p : ℕ) (r : List ℕ) → readPlace p (s ++ r) ≡ reads c (length s)
 cell-complete (d-cell {c = c} h) p r =
-    rw (cell-is (0x60 + c) (omega arith) (omega arith)) (ap (λ (i : ℕ). reads i 1) (omega arith))
+    rw (cell-is (0x60 + c) (omega arith) (omega arith)) (ap (λ (i : ℕ). reads (cell i) 1) (omega arith))
 
-target-complete : {c : ℕ} {s : List ℕ} → DCell c s → (p : ℕ) (r : List ℕ) → readTarget p (s ++ r) ≡ reads (to c) (length s)
+target-complete : {c : Place} {s : List ℕ} → DPlace c s → (p : ℕ) (r : List ℕ) → readTarget p (s ++ r) ≡ reads (to c) (length s)
 target-complete (d-cell {c = c} h) p r = rw (ne-eqb (0x60 + c) 0 (λ e. omega arith), cell-complete (d-cell h) p r)
 
 dest-complete : {d : Dest} {x : Target} {s : List ℕ} → DDest d x s → (p : ℕ) (r : List ℕ) → readDest d p (s ++ r) ≡ reads x (length s)
@@ -164,7 +163,6 @@ dest-complete (d-target h) p r = target-complete h p r
 pub term-complete : {l : ℕ} {t : Term} {s : List ℕ} → DTerm l t s → (p : ℕ) (r : List ℕ) → readTerm l p (s ++ r) ≡ reads t (length s)
 unfolding readTerm readOne readTwo
 term-complete (d-constant e) p r = rw e
-term-complete (d-ones e) p r = rw e
 term-complete (d-bytes {s = s} e) p r =
     let le : leb (length s) (length (s ++ r)) ≡ true = le-leb (length s) (length (s ++ r)) (omega (arith, length-append s r)) in
     rw (e, le, take-append-seam s r)
@@ -188,7 +186,6 @@ term-complete (d-two {s = s} {r = v} {w = w} e dt du dx) p r =
 
 pub term-some : {l : ℕ} {t : Term} {s : List ℕ} → DTerm l t s → 0 < length s
 term-some (d-constant e) = omega arith
-term-some (d-ones e) = omega arith
 term-some (d-bytes e) = omega arith
 term-some (d-read (d-cell h)) = omega arith
 term-some (d-step e h) = omega arith

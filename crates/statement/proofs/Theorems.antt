@@ -18,9 +18,9 @@ use Rattle.statement.specs.declared.RunAnswer.{RunAnswer}
 use Rattle.statement.specs.declared.frame.Frame.{Frame}
 use Rattle.statement.specs.Tree.{Stmts}
 use Rattle.statement.specs.Grammar.{depthLimit, DStmts}
-use Rattle.statement.specs.Reader.{Read, read, readList, treeOf, readBlock}
+use Rattle.statement.specs.Reader.{Read, took, readList, treeOf, readBlock}
 use Rattle.statement.specs.Said.{upTo}
-use Rattle.statement.specs.Meaning.{width, Ended, finished, returned, breakOut, continueOut, Ran, Outcome, outcome, mean}
+use Rattle.statement.specs.Meaning.{width, Ended, finished, returned, breakOut, continueOut, ran, Outcome, outcome, mean}
 use Rattle.statement.specs.Lent.{Accepts, ranOf}
 use Rattle.statement.specs.Promise.{Derives, Verdict, accepted, checkSaid, Checked, endSaid, runSaid, HasRun}
 use Rattle.statement.proofs.Answers.{never}
@@ -38,7 +38,7 @@ unfolding readBlock
 derives-what-reads s t e = go (leb (length s) blockLimit) refl e
   where
     tree : (R : Answer (Read Stmts)) → readList depthLimit 0 s ≡ R → treeOf R ≡ gives t → DStmts depthLimit t s
-    tree (gives (read xs k)) f h = let q : xs ≡ t = cc in subst (λ (x : Stmts). DStmts depthLimit x s) q (lists-sound depthLimit 0 s xs k f)
+    tree (gives (took xs k)) f h = let q : xs ≡ t = cc in subst (λ (x : Stmts). DStmts depthLimit x s) q (lists-sound depthLimit 0 s xs k f)
     tree (refuses n p) f h = never h
 
     go : (b : Bool) → leb (length s) blockLimit ≡ b → cond b (treeOf (readList depthLimit 0 s)) (refuses 5 0) ≡ gives t → Derives s t
@@ -154,20 +154,16 @@ run-from-refusal s f budget v e c q =
     again a b h = rw h
 
 -- from what the code ran
-pub run-from-meaning : (s : List ℕ) (f : Frame) (budget : ℕ) (v : CheckAnswer) (x : Ran) (e : End) → Checked s v → v ≡ CheckAnswer.Accepted →
-    x ≡ ranOf (readList depthLimit 0 s) f budget → endSaid e ≡ x .end → HasRun s f budget (record { began = true; end = e; units = budget - x .left; frame = x .frame })
-run-from-meaning s f budget v x e c q ex ee =
+pub run-from-meaning : (s : List ℕ) (f : Frame) (budget : ℕ) (v : CheckAnswer) (g : Frame) (u : ℕ) (a : Answer Ended) (e : End) → Checked s v → v ≡ CheckAnswer.Accepted →
+    ran g u a ≡ ranOf width (readList depthLimit 0 s) f budget → endSaid e ≡ a → HasRun s f budget (record { began = true; end = e; units = budget - u; frame = g })
+run-from-meaning s f budget v g u a e c q ex ee =
     record {
       stopped = λ n p h. absurd (let (t, d) = c .reading q in refused-is-underived s n p h t d);
       started = λ t d. refl;
       refusal = λ n p h. absurd (let (t, d) = c .reading q in refused-is-underived s n p h t d);
       meaning = λ t d.
-          go (endSaid e) ee
-          ∙ ap (outcome budget) (ex ∙ ap (λ (R : Answer (Read Stmts)). ranOf R f budget) (lists-complete depthLimit t s (d .derived) 0));
+          rw ee (ap (outcome budget) (ex ∙ ap (λ (R : Answer (Read Stmts)). ranOf width R f budget) (lists-complete depthLimit t s (d .derived) 0)));
     }
-  where
-    go : (a : Answer Ended) → a ≡ x .end → _≡_ {A = Outcome} (record { end = a; units = budget - x .left; frame = x .frame }) (outcome budget x)
-    go a h = rw h
 
 -- a run of a block that nothing derives: the definition's refusal, the frame as it came, no unit
 pub run-refuses : (s : List ℕ) (f : Frame) (budget : ℕ) (r : RunAnswer) → HasRun s f budget r → ((t : Stmts) → Derives s t → ⊥) →

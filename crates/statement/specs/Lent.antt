@@ -1,15 +1,18 @@
--- What the running functions answer beside a lent frame: the frame and the answer as one, of what was read.
-use Prim.Native.Nat.{ℕ, _+_, _-_, _≤_}
-use mathlib.Core.Bool.{Bool}
+-- What the running functions answer beside a lent frame: the frame and the answer as one, of what was read. w is the width.
+use Prim.Native.Nat.{ℕ, suc, _+_, _-_, _≤_, _<_}
+use mathlib.Core.Path.{_≡_}
+use mathlib.Core.Bool.{Bool, true, false}
 use mathlib.Core.List.{List}
-use lib.ListN.{take, drop}
-use Rattle.pkg_length.specs.Refusal.{Answer, gives, refuses}
+use lib.ListN.{length, take, drop}
+use Rattle.pkg_length.specs.Refusal.{Answer, gives, refuses, blockLimit}
 use Rattle.pkg_length.specs.Pkg.{Raw}
 use Rattle.statement.specs.declared.frame.Frame.{Frame}
 use Rattle.statement.specs.declared.opcode.Plain.{Plain}
 use Rattle.statement.specs.declared.opcode.Plain.the-variants.{Break, Continue, BreakPoint, Noop}
 use Rattle.statement.specs.declared.opcode.OneOp.{OneOp}
 use Rattle.statement.specs.declared.opcode.TwoOp.{TwoOp}
+use Rattle.statement.specs.declared.number.Width.{Width}
+use Rattle.statement.specs.declared.number.Width.the-variants.{Bits32, Bits64}
 use Rattle.statement.specs.declared.exec.Span.{Span}
 use Rattle.statement.specs.declared.eval.Value.{Value}
 use Rattle.statement.specs.declared.eval.Value.the-variants.{Num, Missing}
@@ -18,8 +21,13 @@ use Rattle.statement.specs.declared.exec.Out.the-variants.{Finished, Ret
 use Rattle.statement.specs.declared.exec.Done.{Done}
 use Rattle.statement.specs.declared.exec.Moved.{Moved}
 use Rattle.statement.specs.Tree.{Target, Term, Stmt, Stmts}
-use Rattle.statement.specs.Reader.{Read, read, Operand, operand, Operands, oneOf, twoOf, Head, whileOf, readList}
-use Rattle.statement.specs.Meaning.{width, binary, Ev, got, lacks, onValue, put, eval, Ended, finished, returned, breakOut, continueOut, Ran, ended, spend, goOf, Turn, turned, oneTurn, turns, doStmt, doStmts}
+use Rattle.statement.specs.Reader.{Read, took, Operand, operand, Operands, oneOf, twoOf, Head, whileOf, readTerm, readPackage, readStmt, readList}
+use Rattle.statement.specs.Meaning.{frames, binary, Ran, ran, thenDo, spend, put, eval, Ended, finished, returned, breakOut, continueOut, Go, goOf, oneTurn, turns, doStmt, doStmts}
+
+-- how many bits numbers have
+abbrev pub bits : Width → ℕ
+bits Bits32 = 32
+bits Bits64 = 64
 
 -- something was read
 abbrev pub Accepts : {A : Type 0} → Answer A → Type 0
@@ -29,42 +37,63 @@ Accepts (refuses n p) = ⊥
 abbrev pub spanned : Span → Raw
 spanned r = record { raw = r .raw; used = r .used }
 
+-- a package at `at` that was read before
+pub record Spans (s : List ℕ) (at : ℕ) (r : Span) : Type 0 where
+  pub is : gives (spanned r) ≡ readPackage 0 (drop at s)
+  pub own : r .used ≤ r .raw
+  pub fits : at + r .raw ≤ length s
+
 abbrev pub framed : List Bool → List ℕ → Frame
 framed s v = record { set = s; val = v }
 
 -- ## Terms
 
-pub record Evaled : Type 0 where
-  pub frame : Frame
-  pub out : Value
+-- a term that was read from `at` on, with l depths left; what that says of its place and depth is named with it
+pub record TermReady (s : List ℕ) (at l : ℕ) : Type 0 where
+  pub short : length s ≤ blockLimit
+  pub inside : at < length s
+  pub deep : 0 < l
+  pub reads : Accepts (readTerm l 0 (drop at s))
 
-abbrev pub evIn : List Bool → List ℕ → Value → Evaled
-evIn s v o = record { frame = framed s v; out = o }
+-- a number and the place behind the term, or the unset cell that was read
+abbrev pub valueSaid : Value → Answer (Read ℕ)
+valueSaid (Num n next) = gives (took n next)
+valueSaid (Missing c) = refuses 23 c
 
--- a number, and the place behind the term
-abbrev pub evAt : ℕ → Ev → Evaled
-evAt next (got n f) = record { frame = f; out = Num n next }
-evAt next (lacks c f) = record { frame = f; out = Missing c }
+-- no term takes a unit here
+abbrev pub evIn : List Bool → List ℕ → Value → Ran Frame (Read ℕ)
+evIn s v o = ran (framed s v) 0 (valueSaid o)
+
+abbrev pub evAt : ℕ → Ran Frame ℕ → Ran Frame (Read ℕ)
+evAt next r = thenDo r (λ n f u. ran f u (gives (took n next)))
 
 -- of what was read from `at` on
-abbrev pub evaledBy : {A : Type 0} → (A → Frame → Ev) → ℕ → Answer (Read A) → Frame → Evaled
-evaledBy ev at (gives (read a k)) f = evAt (at + k) (ev a f)
-evaledBy ev at (refuses n p) f = evAt at (lacks 0 f)
+abbrev pub evaledBy : {A : Type 0} → (A → Frame → ℕ → Ran Frame ℕ) → ℕ → Answer (Read A) → Frame → Ran Frame (Read ℕ)
+evaledBy ev at (gives (took a k)) f = evAt (at + k) (ev a f 0)
+evaledBy ev at (refuses n p) f = ran f 0 (refuses n p)
 
-abbrev pub evOne : OneOp → Operand → Frame → Ev
-evOne o x f = eval width (oneOf o x) f
+abbrev pub evPut : ℕ → Target → Frame → ℕ → Ran Frame ℕ
+evPut n x f u = put frames x n f u
 
-abbrev pub evTwo : TwoOp → Operands → Frame → Ev
-evTwo o x f = eval width (twoOf o x) f
+module _ (w : ℕ) where
+  abbrev pub evOne : OneOp → Operand → Frame → ℕ → Ran Frame ℕ
+  evOne o x f u = eval frames w (oneOf o x) f u
 
--- the second operand, n being the first
-abbrev pub evSecond : TwoOp → ℕ → Operand → Frame → Ev
-evSecond o n (operand t x) f = onValue (eval width t f) (λ m g. put x (binary width o n m) g)
+  abbrev pub evTwo : TwoOp → Operands → Frame → ℕ → Ran Frame ℕ
+  evTwo o x f u = eval frames w (twoOf o x) f u
 
-abbrev pub evPut : ℕ → Target → Frame → Ev
-evPut n x f = put x n f
+  -- the second operand, n being the first
+  abbrev pub evSecond : TwoOp → ℕ → Operand → Frame → ℕ → Ran Frame ℕ
+  evSecond o n (operand t x) f u = thenDo (eval frames w t f u) (λ m g v. put frames x (binary w o n m) g v)
 
 -- ## Statements
+
+-- a statement that was read from `at` on, as `TermReady` says it of a term
+pub record StmtReady (s : List ℕ) (at l : ℕ) : Type 0 where
+  pub short : length s ≤ blockLimit
+  pub inside : at < length s
+  pub deep : 0 < l
+  pub reads : Accepts (readStmt l 0 (drop at s))
 
 abbrev pub outSaid : Out → Answer Ended
 outSaid Finished = gives finished
@@ -74,56 +103,54 @@ outSaid ContinueOut = gives continueOut
 outSaid Spent = refuses 22 0
 outSaid (Unset c) = refuses 23 c
 
-abbrev pub ranIn : List Bool → List ℕ → Done → Ran
-ranIn s v r = record { frame = framed s v; left = r .units; end = outSaid (r .out) }
+abbrev pub ranIn : List Bool → List ℕ → Done → Ran Frame Ended
+ranIn s v r = ran (framed s v) (r .units) (outSaid (r .out))
 
 -- a statement ends and reading goes on behind it, or what it stands in ends
 pub data Way : Type 0 where
   on : ℕ → Way
-  stop : Answer Ended → Way
+  stop : Ended → Way
 
-pub record Step : Type 0 where
-  pub frame : Frame
-  pub left : ℕ
-  pub way : Way
+abbrev pub wayOf : ℕ → Ended → Way
+wayOf next finished = on next
+wayOf next (returned n) = stop (returned n)
+wayOf next breakOut = stop breakOut
+wayOf next continueOut = stop continueOut
 
-abbrev pub wayOf : ℕ → Answer Ended → Way
-wayOf next (gives finished) = on next
-wayOf next (gives (returned n)) = stop (gives (returned n))
-wayOf next (gives breakOut) = stop (gives breakOut)
-wayOf next (gives continueOut) = stop (gives continueOut)
-wayOf next (refuses n p) = stop (refuses n p)
+abbrev pub stepAt : ℕ → Ran Frame Ended → Ran Frame Way
+stepAt next r = thenDo r (λ e f u. ran f u (gives (wayOf next e)))
 
-abbrev pub stepAt : ℕ → Ran → Step
-stepAt next r = record { frame = r .frame; left = r .left; way = wayOf next (r .end) }
+abbrev pub stepF : Frame → Moved → Ran Frame Way
+stepF f r = stepAt (r .next) (ran f (r .units) (outSaid (r .out)))
 
-abbrev pub stepF : Frame → Moved → Step
-stepF f r = record { frame = f; left = r .units; way = wayOf (r .next) (outSaid (r .out)) }
-
-abbrev pub stepIn : List Bool → List ℕ → Moved → Step
+abbrev pub stepIn : List Bool → List ℕ → Moved → Ran Frame Way
 stepIn s v r = stepF (framed s v) r
 
 -- a turn answers as a list does: a body that finished asks for another turn
-abbrev pub turnIn : List Bool → List ℕ → Done → Turn
-turnIn s v r = record { frame = framed s v; left = r .units; go = goOf (outSaid (r .out)) }
+abbrev pub turnAt : Ran Frame Ended → Ran Frame Go
+turnAt r = thenDo r (λ e f u. ran f u (gives (goOf e)))
 
--- a list that was read
-abbrev pub ranOf : Answer (Read Stmts) → Frame → ℕ → Ran
-ranOf (gives (read xs k)) f u = doStmts width xs f u
-ranOf (refuses n p) f u = ended f u (gives finished)
+abbrev pub turnIn : List Bool → List ℕ → Done → Ran Frame Go
+turnIn s v r = turnAt (ranIn s v r)
 
--- a statement that was read from `at` on, with its unit to spend; and once it has it
-abbrev pub stepOf : ℕ → Answer (Read Stmt) → Frame → ℕ → Step
-stepOf at (gives (read x k)) f u = stepAt (at + k) (spend f u (λ v. doStmt width x f v))
-stepOf at (refuses n p) f u = stepAt at (ended f u (gives finished))
+module _ (w : ℕ) where
+  -- a list that was read
+  abbrev pub ranOf : Answer (Read Stmts) → Frame → ℕ → Ran Frame Ended
+  ranOf (gives (took xs k)) f u = doStmts frames w xs f u
+  ranOf (refuses n p) f u = ran f u (refuses n p)
 
-abbrev pub stepDo : ℕ → Answer (Read Stmt) → Frame → ℕ → Step
-stepDo at (gives (read x k)) f u = stepAt (at + k) (doStmt width x f u)
-stepDo at (refuses n p) f u = stepAt at (ended f u (gives finished))
+  -- a statement that was read from `at` on, with its unit to spend; and once it has it
+  abbrev pub stepOf : ℕ → Answer (Read Stmt) → Frame → ℕ → Ran Frame Way
+  stepOf at (gives (took x k)) f u = stepAt (at + k) (spend f u (λ v. doStmt frames w x f v))
+  stepOf at (refuses n p) f u = ran f u (refuses n p)
 
-abbrev pub whileDo : ℕ → Answer (Read Head) → Frame → ℕ → Step
-whileDo at (gives (read h k)) f u = stepAt (at + k) (doStmt width (whileOf h) f u)
-whileDo at (refuses n p) f u = stepAt at (ended f u (gives finished))
+  abbrev pub stepDo : ℕ → Answer (Read Stmt) → Frame → ℕ → Ran Frame Way
+  stepDo at (gives (took x k)) f u = stepAt (at + k) (doStmt frames w x f u)
+  stepDo at (refuses n p) f u = ran f u (refuses n p)
+
+  abbrev pub whileDo : ℕ → Answer (Read Head) → Frame → ℕ → Ran Frame Way
+  whileDo at (gives (took h k)) f u = stepAt (at + k) (doStmt frames w (whileOf h) f u)
+  whileDo at (refuses n p) f u = ran f u (refuses n p)
 
 -- a While's turns, of its predicate at `at` and its body up to `end`, as they were read with l depths left
 module _ (l : ℕ) (s : List ℕ) (end at : ℕ) where
@@ -131,18 +158,44 @@ module _ (l : ℕ) (s : List ℕ) (end at : ℕ) where
   bodyFrom m = readList l 0 (take (end - m) (drop m s))
 
   abbrev pub TurnsOk : Answer (Read Term) → Type 0
-  TurnsOk (gives (read t k)) = (at + k ≤ end) × Accepts (bodyFrom (at + k))
+  TurnsOk (gives (took t k)) = (at + k ≤ end) × Accepts (bodyFrom (at + k))
   TurnsOk (refuses n p) = ⊥
 
-  abbrev pub turnOf : Answer (Read Term) → Frame → ℕ → Turn
-  turnOf (gives (read t k)) f u = oneTurn (eval width t) (λ g v. ranOf (bodyFrom (at + k)) g v) f u
-  turnOf (refuses n p) f u = turned f u (goOf (gives finished))
+  abbrev pub turnOf : ℕ → Answer (Read Term) → Frame → ℕ → Ran Frame Go
+  turnOf w (gives (took t k)) f u = oneTurn (eval frames w t) (λ g v. ranOf w (bodyFrom (at + k)) g v) f u
+  turnOf w (refuses n p) f u = ran f u (refuses n p)
 
-  abbrev pub turnsBy : Answer (Read Term) → ℕ → Frame → ℕ → Ran
-  turnsBy (gives (read t k)) n f u = turns (eval width t) (λ g v. ranOf (bodyFrom (at + k)) g v) n f u
-  turnsBy (refuses n p) m f u = ended f u (gives finished)
+  abbrev pub turnsBy : ℕ → Answer (Read Term) → Frame → ℕ → Ran Frame Ended
+  turnsBy w (gives (took t k)) f u = turns (eval frames w t) (λ g v. ranOf w (bodyFrom (at + k)) g v) (suc u) f u
+  turnsBy w (refuses n p) f u = ran f u (refuses n p)
 
 -- ## The small answers alone
+
+-- whether a list goes on behind a statement that ended so
+abbrev pub isFinished : Out → Bool
+isFinished Finished = true
+isFinished (Returned n) = false
+isFinished BreakOut = false
+isFinished ContinueOut = false
+isFinished Spent = false
+isFinished (Unset c) = false
+
+-- whether a While goes on behind a body that ended so; and how it ends, where it does not
+abbrev pub turnsOn : Out → Bool
+turnsOn Finished = true
+turnsOn (Returned n) = false
+turnsOn BreakOut = false
+turnsOn ContinueOut = true
+turnsOn Spent = false
+turnsOn (Unset c) = false
+
+abbrev pub whileOut : Out → Out
+whileOut Finished = Finished
+whileOut (Returned n) = Returned n
+whileOut BreakOut = Finished
+whileOut ContinueOut = Finished
+whileOut Spent = Spent
+whileOut (Unset c) = Unset c
 
 abbrev pub movedTo : ℕ → Done → Moved
 movedTo next r = record { units = r .units; next = next; out = r .out }

@@ -1,4 +1,4 @@
--- What a reading means, for any frame and budget: over the tree alone, without the check or the run. w is the width of numbers in bits.
+-- What a reading means, for any memory and budget: over the tree alone, without the check or the run. w is the width of numbers in bits.
 use Prim.Native.Nat.{ℕ, zero, suc, _+_, _-_, _^_, _%_}
 use mathlib.Core.Bool.{Bool, true, false, not, cond}
 use lib.Dec.{ltb, eqb}
@@ -13,7 +13,7 @@ use Rattle.statement.specs.declared.opcode.OneOp.{OneOp}
 use Rattle.statement.specs.declared.opcode.OneOp.the-variants.{Store, LNot}
 use Rattle.statement.specs.declared.opcode.TwoOp.{TwoOp}
 use Rattle.statement.specs.declared.opcode.TwoOp.the-variants.{Add, And, LAnd, LOr, LEqual, LGreater, LLess}
-use Rattle.statement.specs.Tree.{Target, nowhere, to, Term, const, ones, cell, step, one, two, Stmt, plain, return, ifElse, while, expr, Stmts, nil, cons}
+use Rattle.statement.specs.Tree.{Place, cell, Target, nowhere, to, Term, const, read, step, one, two, Stmt, plain, return, ifElse, while, expr, Stmts, nil, cons}
 use Rattle.statement.specs.Frames.{held, wrote}
 
 -- ## Numbers
@@ -56,40 +56,45 @@ binary w LEqual a b = truth w (eqb a b)
 binary w LGreater a b = truth w (ltb b a)
 binary w LLess a b = truth w (ltb a b)
 
--- ## Terms
+-- ## Memory
 
--- a term's number, or the unset cell that was read; and the frame
-pub data Ev : Type 0 where
-  got : ℕ → Frame → Ev
-  lacks : ℕ → Frame → Ev
+-- what terms read and write: a state, what a place holds in it, and the state once it is written
+pub record Memory : Type 1 where
+  pub State : Type 0
+  pub load : State → Place → Answer ℕ
+  pub save : State → Place → ℕ → Answer State
 
-abbrev pub onValue : Ev → (ℕ → Frame → Ev) → Ev
-onValue (got n f) next = next n f
-onValue (lacks c f) next = lacks c f
+-- a frame's cells
+abbrev pub loadCell : Frame → Place → Answer ℕ
+loadCell f (cell c) = held f c
 
-abbrev pub valueOf : Frame → ℕ → Answer ℕ → Ev
-valueOf f c (gives n) = got n f
-valueOf f c (refuses n p) = lacks c f
+abbrev pub saveCell : Frame → Place → ℕ → Answer Frame
+saveCell f (cell c) n = gives (wrote f c n)
 
--- a cell is read
-abbrev pub load : Frame → ℕ → Ev
-load f c = valueOf f c (held f c)
+abbrev pub frames : Memory
+frames = record { State = Frame; load = loadCell; save = saveCell }
 
--- a result is written where the operator says, and is the term's number
-abbrev pub put : Target → ℕ → Frame → Ev
-put nowhere n f = got n f
-put (to c) n f = got n (wrote f c n)
+-- ## What is evaluated or run: where it stands
 
--- a constant keeps its low w bits; operands go left to right, both always
-unfoldable pub eval : ℕ → Term → Frame → Ev
-eval w (const n) f = got (n % 2 ^ w) f
-eval w ones f = got (allOnes w) f
-eval w (cell c) f = load f c
-eval w (step o c) f = onValue (load f c) (λ n g. put (to c) (stepped w o n) g)
-eval w (one o t x) f = onValue (eval w t f) (λ n g. put x (unary w o n) g)
-eval w (two o t u x) f = onValue (eval w t f) (λ n g. onValue (eval w u g) (λ m h. put x (binary w o n m) h))
+-- the state, the units that are left, and what was worked out, or the refusal
+pub data Ran (S A : Type 0) : Type 0 where
+  ran : S → ℕ → Answer A → Ran S A
 
--- ## Statements
+-- what follows; a refusal stands, with the effects before it
+abbrev pub thenDo : {S A B : Type 0} → Ran S A → (A → S → ℕ → Ran S B) → Ran S B
+thenDo (ran s u (gives a)) next = next a s u
+thenDo (ran s u (refuses n p)) next = ran s u (refuses n p)
+
+-- no unit is left for what comes next
+abbrev pub spent : {S A : Type 0} → S → ℕ → Ran S A
+spent s u = ran s u (refuses 22 0)
+
+-- one unit, if there is one: 22 before any effect
+abbrev pub spend : {S A : Type 0} → S → ℕ → (ℕ → Ran S A) → Ran S A
+spend s zero next = spent s 0
+spend s (suc u) next = next u
+
+-- ## Statements: how they end
 
 pub data Ended : Type 0 where
   finished : Ended
@@ -97,95 +102,84 @@ pub data Ended : Type 0 where
   breakOut : Ended
   continueOut : Ended
 
--- where a run stands: the frame, the units that are left, and how it ended; 22 and 23 are refusals
-pub record Ran : Type 0 where
-  pub frame : Frame
-  pub left : ℕ
-  pub end : Answer Ended
-
-abbrev pub ended : Frame → ℕ → Answer Ended → Ran
-ended f u e = record { frame = f; left = u; end = e }
-
--- one unit, if there is one: 22 before any effect
-abbrev pub spend : Frame → ℕ → (ℕ → Ran) → Ran
-spend f zero next = ended f 0 (refuses 22 0)
-spend f (suc u) next = next u
-
--- what follows a term's number
-abbrev pub test : Ev → ℕ → (ℕ → Frame → Ran) → Ran
-test (got n f) u next = next n f
-test (lacks c f) u next = ended f u (refuses 23 c)
-
--- what follows goes on where what came before finished
-abbrev pub goOn : Frame → ℕ → Answer Ended → (Frame → ℕ → Ran) → Ran
-goOn f u (gives finished) next = next f u
-goOn f u (gives (returned n)) next = ended f u (gives (returned n))
-goOn f u (gives breakOut) next = ended f u (gives breakOut)
-goOn f u (gives continueOut) next = ended f u (gives continueOut)
-goOn f u (refuses n p) next = ended f u (refuses n p)
-
 abbrev pub plainEnd : Plain → Ended
 plainEnd Break = breakOut
 plainEnd Continue = continueOut
 plainEnd BreakPoint = finished
 plainEnd Noop = finished
 
--- ## A While: the meaning of its turns
+-- a list goes on behind a statement that finished
+abbrev pub goOn : {S : Type 0} → Ended → (S → ℕ → Ran S Ended) → S → ℕ → Ran S Ended
+goOn finished next s u = next s u
+goOn (returned n) next s u = ran s u (gives (returned n))
+goOn breakOut next s u = ran s u (gives breakOut)
+goOn continueOut next s u = ran s u (gives continueOut)
 
+-- a turn of a While asks for another, or the While ends
 pub data Go : Type 0 where
   again : Go
-  ends : Answer Ended → Go
+  over : Ended → Go
 
 -- Break and Continue of the body act on this While
-abbrev pub goOf : Answer Ended → Go
-goOf (gives finished) = again
-goOf (gives (returned n)) = ends (gives (returned n))
-goOf (gives breakOut) = ends (gives finished)
-goOf (gives continueOut) = again
-goOf (refuses n p) = ends (refuses n p)
+abbrev pub goOf : Ended → Go
+goOf finished = again
+goOf (returned n) = over (returned n)
+goOf breakOut = over finished
+goOf continueOut = again
 
-pub record Turn : Type 0 where
-  pub frame : Frame
-  pub left : ℕ
-  pub go : Go
+abbrev pub afterTurn : {S : Type 0} → Go → (S → ℕ → Ran S Ended) → S → ℕ → Ran S Ended
+afterTurn again next s u = next s u
+afterTurn (over e) next s u = ran s u (gives e)
 
-abbrev pub turned : Frame → ℕ → Go → Turn
-turned f u g = record { frame = f; left = u; go = g }
+module _ {S : Type 0} (predicate : S → ℕ → Ran S ℕ) (body : S → ℕ → Ran S Ended) where
+  -- one turn: a unit, the predicate, the body
+  abbrev pub oneTurn : S → ℕ → Ran S Go
+  oneTurn s u =
+      spend s u (λ v.
+      thenDo (predicate s v) (λ n t w.
+      cond (eqb n 0) (ran t w (gives (over finished))) (thenDo (body t w) (λ e x y. ran x y (gives (goOf e))))))
 
-abbrev pub turnTest : Ev → ℕ → (ℕ → Frame → Turn) → Turn
-turnTest (got n f) u next = next n f
-turnTest (lacks c f) u next = turned f u (ends (refuses 23 c))
+  -- at most k turns: as each takes a unit, one more than there are units is enough (`turns-enough`)
+  unfoldable pub turns : ℕ → S → ℕ → Ran S Ended
+  turns zero s u = spent s u
+  turns (suc k) s u = thenDo (oneTurn s u) (λ g t v. afterTurn g (turns k) t v)
 
--- one turn: a unit, the predicate, the body
-abbrev pub oneTurn : (Frame → Ev) → (Frame → ℕ → Ran) → Frame → ℕ → Turn
-oneTurn p body f zero = turned f 0 (ends (refuses 22 0))
-oneTurn p body f (suc u) =
-    turnTest (p f) u (λ n g.
-    cond (eqb n 0) (turned g u (ends (gives finished))) (let r = body g u in turned (r .frame) (r .left) (goOf (r .end))))
+-- ## Terms and statements, over any memory
 
-abbrev pub afterTurn : Frame → ℕ → Go → (Frame → ℕ → Ran) → Ran
-afterTurn f u again next = next f u
-afterTurn f u (ends e) next = ended f u e
+-- a result is written where the operator says, and is the term's number
+abbrev pub saved : {S : Type 0} → ℕ → S → ℕ → Answer S → Ran S ℕ
+saved n s u (gives t) = ran t u (gives n)
+saved n s u (refuses k p) = ran s u (refuses k p)
 
--- at most k turns: as each takes a unit, one more than there are units is enough
-unfoldable pub turns : (Frame → Ev) → (Frame → ℕ → Ran) → ℕ → Frame → ℕ → Ran
-turns p body zero f u = ended f u (refuses 22 0)
-turns p body (suc k) f u = (let t = oneTurn p body f u in afterTurn (t .frame) (t .left) (t .go) (turns p body k))
+module _ (m : Memory) where
+  abbrev pub fetch : Place → m .State → ℕ → Ran (m .State) ℕ
+  fetch x s u = ran s u (m .load s x)
 
-unfoldable mutual
-  -- a statement that has its unit
-  pub doStmt : ℕ → Stmt → Frame → ℕ → Ran
-  doStmt w (plain o) f u = ended f u (gives (plainEnd o))
-  doStmt w (return t) f u = test (eval w t f) u (λ n g. ended g u (gives (returned n)))
-  doStmt w (ifElse t xs ys) f u = test (eval w t f) u (λ n g. cond (eqb n 0) (doStmts w ys g u) (doStmts w xs g u))
-  doStmt w (while t xs) f u = turns (eval w t) (λ g v. doStmts w xs g v) (suc u) f u
-  doStmt w (expr t) f u = test (eval w t f) u (λ n g. ended g u (gives finished))
+  abbrev pub put : Target → ℕ → m .State → ℕ → Ran (m .State) ℕ
+  put nowhere n s u = ran s u (gives n)
+  put (to x) n s u = saved n s u (m .save s x n)
 
-  -- one unit for each statement begun
-  pub doStmts : ℕ → Stmts → Frame → ℕ → Ran
-  doStmts w nil f u = ended f u (gives finished)
-  doStmts w (cons x xs) f u =
-      (let r = spend f u (λ v. doStmt w x f v) in goOn (r .frame) (r .left) (r .end) (λ g v. doStmts w xs g v))
+  -- a constant keeps its low w bits; operands go left to right, both always
+  unfoldable pub eval : ℕ → Term → m .State → ℕ → Ran (m .State) ℕ
+  eval w (const n) s u = ran s u (gives (n % 2 ^ w))
+  eval w (read x) s u = fetch x s u
+  eval w (step o x) s u = thenDo (fetch x s u) (λ n t v. put (to x) (stepped w o n) t v)
+  eval w (one o a x) s u = thenDo (eval w a s u) (λ n t v. put x (unary w o n) t v)
+  eval w (two o a b x) s u = thenDo (eval w a s u) (λ n t v. thenDo (eval w b t v) (λ k y z. put x (binary w o n k) y z))
+
+  unfoldable mutual
+    -- a statement that has its unit
+    pub doStmt : ℕ → Stmt → m .State → ℕ → Ran (m .State) Ended
+    doStmt w (plain o) s u = ran s u (gives (plainEnd o))
+    doStmt w (return a) s u = thenDo (eval w a s u) (λ n t v. ran t v (gives (returned n)))
+    doStmt w (ifElse a xs ys) s u = thenDo (eval w a s u) (λ n t v. cond (eqb n 0) (doStmts w ys t v) (doStmts w xs t v))
+    doStmt w (while a xs) s u = turns (eval w a) (λ t v. doStmts w xs t v) (suc u) s u
+    doStmt w (expr a) s u = thenDo (eval w a s u) (λ n t v. ran t v (gives finished))
+
+    -- one unit for each statement begun
+    pub doStmts : ℕ → Stmts → m .State → ℕ → Ran (m .State) Ended
+    doStmts w nil s u = ran s u (gives finished)
+    doStmts w (cons x xs) s u = thenDo (spend s u (λ v. doStmt w x s v)) (λ e t v. goOn e (λ y z. doStmts w xs y z) t v)
 
 -- ## A block
 
@@ -195,8 +189,8 @@ pub record Outcome : Type 0 where
   pub units : ℕ
   pub frame : Frame
 
-abbrev pub outcome : ℕ → Ran → Outcome
-outcome budget r = record { end = r .end; units = budget - r .left; frame = r .frame }
+abbrev pub outcome : ℕ → Ran Frame Ended → Outcome
+outcome budget (ran f u e) = record { end = e; units = budget - u; frame = f }
 
 abbrev pub mean : ℕ → Stmts → Frame → ℕ → Outcome
-mean w t f budget = outcome budget (doStmts w t f budget)
+mean w t f budget = outcome budget (doStmts frames w t f budget)

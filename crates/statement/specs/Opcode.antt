@@ -1,6 +1,6 @@
 -- The opcodes under the Rust's names (opcode.rs), and what each byte starts, as rows of tables: a further operator is a further row.
-use Prim.Native.Nat.{ℕ, _-_}
-use mathlib.Core.Bool.{Bool, true, false, cond}
+use Prim.Native.Nat.{ℕ, _-_, _^_}
+use mathlib.Core.Bool.{Bool, false, cond}
 use mathlib.Core.List.{List, [], _∷_}
 use lib.Dec.{leb, eqb}
 use Rattle.statement.specs.declared.opcode.Plain.the-variants.{Break, Continue, BreakPoint, Noop}
@@ -9,9 +9,9 @@ use Rattle.statement.specs.declared.opcode.OneOp.the-variants.{Store, LN
 use Rattle.statement.specs.declared.opcode.TwoOp.the-variants.{Add, And, LAnd, LOr, LEqual, LGreater, LLess}
 use Rattle.statement.specs.declared.opcode.Dest.the-variants.{Nowhere, ToCell, ToTarget}
 use Rattle.statement.specs.declared.opcode.TermOp.{TermOp}
-use Rattle.statement.specs.declared.opcode.TermOp.the-variants.{Constant, Ones, Bytes, Cell, Step, One, Two, BadTerm}
+use Rattle.statement.specs.declared.opcode.TermOp.the-variants.{Constant, Bytes, Cell, Step, One, Two, BadTerm}
 use Rattle.statement.specs.declared.opcode.StmtOp.{StmtOp}
-use Rattle.statement.specs.declared.opcode.StmtOp.the-variants.{Simple, Return, If, While, Expr}
+use Rattle.statement.specs.declared.opcode.StmtOp.the-variants.{Simple, Return, If, While, Expr, BadStmt}
 
 -- ## The opcodes
 
@@ -120,7 +120,7 @@ abbrev pub termRows : List (Row TermOp)
 termRows =
     row «ZERO_OP» (Constant 0)
     ∷ row «ONE_OP» (Constant 1)
-    ∷ row «ONES_OP» Ones
+    ∷ row «ONES_OP» (Constant (2 ^ 64 - 1))
     ∷ row «BYTE_CONST» (Bytes 1)
     ∷ row «WORD_CONST» (Bytes 2)
     ∷ row «DWORD_CONST» (Bytes 4)
@@ -153,16 +153,16 @@ stmtRows =
     ∷ row «DEF_WHILE_OP» While
     ∷ []
 
--- what a byte starts as a statement: one of its own, or else an expression, if it is one
-unfoldable pub stmtOp : ℕ → StmtOp
-stmtOp b = look stmtRows Expr b
+-- a term that starts so, as a statement: it is an expression, or starts none
+abbrev pub asStmt : TermOp → StmtOp
+asStmt (Constant n) = BadStmt
+asStmt (Bytes n) = BadStmt
+asStmt (Cell c) = BadStmt
+asStmt (Step o) = Expr
+asStmt (One o d) = Expr
+asStmt (Two o d) = Expr
+asStmt BadTerm = BadStmt
 
-abbrev pub expression : TermOp → Bool
-expression (Constant n) = false
-expression Ones = false
-expression (Bytes n) = false
-expression (Cell c) = false
-expression (Step o) = true
-expression (One o d) = true
-expression (Two o d) = true
-expression BadTerm = false
+-- what a byte starts as a statement: one of its own, or what it is as a term
+unfoldable pub stmtOp : ℕ → StmtOp
+stmtOp b = look stmtRows (asStmt (termOp b)) b

@@ -14,23 +14,23 @@ use Rattle.statement.specs.declared.opcode.TwoOp.{TwoOp}
 use Rattle.statement.specs.declared.opcode.Dest.{Dest}
 use Rattle.statement.specs.declared.opcode.Dest.the-variants.{Nowhere, ToCell, ToTarget}
 use Rattle.statement.specs.declared.opcode.TermOp.{TermOp}
-use Rattle.statement.specs.declared.opcode.TermOp.the-variants.{Constant, Ones, Bytes, Cell, Step, One, Two, BadTerm}
+use Rattle.statement.specs.declared.opcode.TermOp.the-variants.{Constant, Bytes, Cell, Step, One, Two, BadTerm}
 use Rattle.statement.specs.declared.opcode.StmtOp.{StmtOp}
-use Rattle.statement.specs.declared.opcode.StmtOp.the-variants.{Simple, Return, If, While, Expr}
-use Rattle.statement.specs.Opcode.{«NULL_NAME», «LOCAL0_OP», «DEF_ELSE_OP», isCell, termOp, stmtOp, expression}
-use Rattle.statement.specs.Tree.{Target, nowhere, to, Term, const, ones, cell, step, one, two, Stmt, plain, return, ifElse, while, expr, Stmts, nil, cons}
+use Rattle.statement.specs.declared.opcode.StmtOp.the-variants.{Simple, Return, If, While, Expr, BadStmt}
+use Rattle.statement.specs.Opcode.{«NULL_NAME», «LOCAL0_OP», «DEF_ELSE_OP», isCell, termOp, stmtOp}
+use Rattle.statement.specs.Tree.{Place, cell, Target, nowhere, to, Term, const, read, step, one, two, Stmt, plain, return, ifElse, while, expr, Stmts, nil, cons}
 use Rattle.statement.specs.Grammar.{depthLimit}
 
 -- what was read, and how many bytes it took
 pub data Read (A : Type 0) : Type 0 where
-  read : A → ℕ → Read A
+  took : A → ℕ → Read A
 
 abbrev pub reads : {A : Type 0} → A → ℕ → Answer (Read A)
-reads a k = gives (read a k)
+reads a k = gives (took a k)
 
 -- what follows; a refusal stands
 abbrev pub thenRead : {A B : Type 0} → Answer (Read A) → (A → ℕ → Answer B) → Answer B
-thenRead (gives (read a k)) next = next a k
+thenRead (gives (took a k)) next = next a k
 thenRead (refuses n p) next = refuses n p
 
 -- ## Terms
@@ -39,19 +39,19 @@ thenRead (refuses n p) next = refuses n p
 abbrev pub readBytes : ℕ → ℕ → List ℕ → Answer (Read Term)
 readBytes n p s = cond (leb n (length s)) (reads (const (little (take n s))) n) (refuses 1 (p + length s))
 
--- a written cell
-abbrev pub readCell : ℕ → List ℕ → Answer (Read ℕ)
-readCell p [] = refuses 1 p
-readCell p (b ∷ s) = cond (isCell b) (reads (b - «LOCAL0_OP») 1) (refuses 3 p)
+-- what is read or written
+abbrev pub readPlace : ℕ → List ℕ → Answer (Read Place)
+readPlace p [] = refuses 1 p
+readPlace p (b ∷ s) = cond (isCell b) (reads (cell (b - «LOCAL0_OP»)) 1) (refuses 3 p)
 
 abbrev pub readTarget : ℕ → List ℕ → Answer (Read Target)
 readTarget p [] = refuses 1 p
-readTarget p (b ∷ s) = cond (eqb b «NULL_NAME») (reads nowhere 1) (thenRead (readCell p (b ∷ s)) (λ c k. reads (to c) k))
+readTarget p (b ∷ s) = cond (eqb b «NULL_NAME») (reads nowhere 1) (thenRead (readPlace p (b ∷ s)) (λ x k. reads (to x) k))
 
 -- where an operator's result goes
 abbrev pub readDest : Dest → ℕ → List ℕ → Answer (Read Target)
 readDest Nowhere p s = reads nowhere 0
-readDest ToCell p s = thenRead (readCell p s) (λ c k. reads (to c) k)
+readDest ToCell p s = thenRead (readPlace p s) (λ x k. reads (to x) k)
 readDest ToTarget p s = readTarget p s
 
 -- an operator's operands, and where its result goes
@@ -86,10 +86,9 @@ twoOf o (operands t u x) = two o t u x
 -- by what the first byte is, s being the bytes behind it; `term` reads one deeper
 abbrev pub termBy : (ℕ → List ℕ → Answer (Read Term)) → ℕ → List ℕ → TermOp → Answer (Read Term)
 termBy term p s (Constant n) = reads (const n) 1
-termBy term p s Ones = reads ones 1
 termBy term p s (Bytes n) = thenRead (readBytes n (suc p) s) (λ t k. reads t (suc k))
-termBy term p s (Cell c) = reads (cell c) 1
-termBy term p s (Step o) = thenRead (readCell (suc p) s) (λ c k. reads (step o c) (suc k))
+termBy term p s (Cell c) = reads (read (cell c)) 1
+termBy term p s (Step o) = thenRead (readPlace (suc p) s) (λ x k. reads (step o x) (suc k))
 termBy term p s (One o d) = thenRead (readOne term d (suc p) s) (λ x k. reads (oneOf o x) (suc k))
 termBy term p s (Two o d) = thenRead (readTwo term d (suc p) s) (λ x k. reads (twoOf o x) (suc k))
 termBy term p s BadTerm = refuses 3 p
@@ -121,14 +120,6 @@ ifOf (head t xs) ys = ifElse t xs ys
 
 abbrev pub whileOf : Head → Stmt
 whileOf (head t xs) = while t xs
-
--- a term that starts with an expression opcode
-abbrev pub readExpr : ℕ → List ℕ → Answer (Read Stmt)
-readExpr p [] = refuses 1 p
-readExpr p (b ∷ s) =
-    cond (expression (termOp b))
-    (thenRead (readTerm depthLimit p (b ∷ s)) (λ t k. reads (expr t) k))
-    (refuses 3 p)
 
 -- `list` reads a body, one deeper
 module _ (list : ℕ → List ℕ → Answer (Read Stmts)) where
@@ -165,7 +156,8 @@ module _ (list : ℕ → List ℕ → Answer (Read Stmts)) where
   stmtBy b p s Return = thenRead (readTerm depthLimit (suc p) s) (λ t k. reads (return t) (suc k))
   stmtBy b p s If = thenRead (readIf (suc p) s) (λ x k. reads x (suc k))
   stmtBy b p s While = thenRead (readHead (suc p) s) (λ h k. reads (whileOf h) (suc k))
-  stmtBy b p s Expr = readExpr p (b ∷ s)
+  stmtBy b p s Expr = thenRead (readTerm depthLimit p (b ∷ s)) (λ t k. reads (expr t) k)
+  stmtBy b p s BadStmt = refuses 3 p
 
   abbrev pub stmtAt : ℕ → List ℕ → Answer (Read Stmt)
   stmtAt p [] = refuses 1 p
@@ -191,7 +183,7 @@ readList left = listBy (readStmt left) 0
 -- ## A block
 
 abbrev pub treeOf : Answer (Read Stmts) → Answer Stmts
-treeOf (gives (read xs k)) = gives xs
+treeOf (gives (took xs k)) = gives xs
 treeOf (refuses n p) = refuses n p
 
 -- the reading of a block, or its refusal: its length first

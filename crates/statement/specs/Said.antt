@@ -8,7 +8,7 @@ use Rattle.pkg_length.specs.Refusal.{Answer, gives, refuses, andThen, refused}
 use Rattle.pkg_length.specs.Pkg.{Raw}
 use Rattle.statement.specs.declared.term.Reach.{Reach}
 use Rattle.statement.specs.declared.read.Package.{Package}
-use Rattle.statement.specs.Reader.{Read, read}
+use Rattle.statement.specs.Reader.{Read, took}
 
 -- what reading says, in the code's names: that it goes on, or one of the refusals; what has no name here is too deep
 abbrev pub «NEXT» : ℕ
@@ -41,5 +41,5 @@ packed w = andThen (reached (w .0)) (λ n. gives (record { raw = n; used = w .1 
 
 -- read from `at` on: the place after it
 abbrev pub upTo : {A : Type 0} → ℕ → Answer (Read A) → Answer ℕ
-upTo at (gives (read a k)) = gives (at + k)
+upTo at (gives (took a k)) = gives (at + k)
 upTo at (refuses n p) = refuses n p

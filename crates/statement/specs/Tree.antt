@@ -1,20 +1,23 @@
--- A reading: the tree of a block's statements and terms. It holds constants and cells as numbers, and none of the block's bytes or places.
+-- A reading: the tree of a block's statements and terms. It holds constants and places as numbers, and none of the block's bytes or offsets.
 use Prim.Native.Nat.{ℕ}
 use Rattle.statement.specs.declared.opcode.Plain.{Plain}
 use Rattle.statement.specs.declared.opcode.StepOp.{StepOp}
 use Rattle.statement.specs.declared.opcode.OneOp.{OneOp}
 use Rattle.statement.specs.declared.opcode.TwoOp.{TwoOp}
 
+-- what is read or written: a cell
+pub data Place : Type 0 where
+  cell : ℕ → Place
+
 -- where a result is written
 pub data Target : Type 0 where
   nowhere : Target
-  to : ℕ → Target
+  to : Place → Target
 
 pub data Term : Type 0 where
   const : ℕ → Term
-  ones : Term
-  cell : ℕ → Term
-  step : StepOp → ℕ → Term
+  read : Place → Term
+  step : StepOp → Place → Term
   one : OneOp → Term → Target → Term
   two : TwoOp → Term → Term → Target → Term
 

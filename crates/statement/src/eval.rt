@@ -1,5 +1,6 @@
 // Evaluating a term that was read. The frame is lent, as its two arrays, so that nothing of it is copied.
 use crate::number;
+use crate::number::Width;
 use crate::opcode;
 use crate::opcode::Dest;
 use crate::opcode::OneOp;
@@ -11,11 +12,11 @@ ghost use Prim.Native.Nat.{_≤_, _<_};
 ghost use lib.ListN.{length, drop};
 ghost use Rattle.pkg_length.specs.Refusal.{blockLimit};
 ghost use Rattle.statement.specs.Grammar.{cells};
-ghost use Rattle.statement.specs.Tree.{to};
+ghost use Rattle.statement.specs.Tree as tree;
 ghost use Rattle.statement.specs.Reader.{readDest, readOne, readTwo, readTerm};
 ghost use Rattle.statement.specs.Frames.{wrote};
-ghost use Rattle.statement.specs.Meaning.{width, load, onValue, put, stepped, eval};
-ghost use Rattle.statement.specs.Lent.{Accepts, framed, evIn, evAt, evaledBy, evOne, evTwo, evSecond, evPut};
+ghost use Rattle.statement.specs.Meaning.{frames, eval};
+ghost use Rattle.statement.specs.Lent.{bits, Accepts, TermReady, framed, evIn, evAt, evaledBy, evOne, evTwo, evSecond, evPut};
 
 // A term's number and where reading goes on, or the unset cell that was read.
 pub enum Value {
@@ -29,9 +30,9 @@ fn wide(b: u8) -> usize
     b as usize
 }
 
-fn load_cell(set: &[bool; 15], val: &[u64; 15], cell: usize, next: usize) -> Value
+fn load_cell(set: &[bool; 15], val: &[u64; 15], cell: usize, next: usize, w: Width) -> Value
     requires { ⌜ cell < cells ⌝ }
-    ensures { λ r. ⌜ evIn (now (set .entry)) (now (val .entry)) r ≡ evAt next (load (framed (now (set .entry)) (now (val .entry))) cell) ⌝ }
+    ensures { λ r. ⌜ evIn (now (set .entry)) (now (val .entry)) r ≡ evAt next (eval frames (bits w) (tree.read (tree.cell cell)) (framed (now (set .entry)) (now (val .entry))) 0) ⌝ }
 {
     if set[cell] {
         Value::Num(val[cell], next)
@@ -54,12 +55,13 @@ fn step_cell(
     val: &mut [u64; 15],
     cell: usize,
     next: usize,
+    w: Width,
 ) -> Value
     requires { ⌜ cell < cells ⌝ }
-    ensures { λ r. ⌜ evIn (now (set .exit)) (now (val .exit)) r ≡ evAt next (onValue (load (framed (now (set .entry)) (now (val .entry))) cell) (λ n g. put (to cell) (stepped width op n) g)) ⌝ }
+    ensures { λ r. ⌜ evIn (now (set .exit)) (now (val .exit)) r ≡ evAt next (eval frames (bits w) (tree.step op (tree.cell cell)) (framed (now (set .entry)) (now (val .entry))) 0) ⌝ }
 {
     if set[cell] {
-        let n = number::stepped(op, val[cell]);
+        let n = number::stepped(op, val[cell], w);
         write_cell(set, val, cell, n);
         Value::Num(n, next)
     } else {
@@ -102,15 +104,16 @@ pub(crate) fn eval(
     left: usize,
     set: &mut [bool; 15],
     val: &mut [u64; 15],
+    w: Width,
 ) -> Value
-    requires { ⌜ (length (now part) ≤ blockLimit) × Accepts (readTerm left 0 (drop at (now part))) ⌝ }
-    ensures { λ r. ⌜ evIn (now (set .exit)) (now (val .exit)) r ≡ evaledBy (eval width) at (readTerm left 0 (drop at (now (part .entry)))) (framed (now (set .entry)) (now (val .entry))) ⌝ }
+    requires { ⌜ TermReady (now part) at left ⌝ }
+    ensures { λ r. ⌜ evIn (now (set .exit)) (now (val .exit)) r ≡ evaledBy (eval frames (bits w)) at (readTerm left 0 (drop at (now (part .entry)))) (framed (now (set .entry)) (now (val .entry))) ⌝ }
 {
     let b = part[at];
     if opcode::is_cell(b) {
-        load_cell(set, val, wide(b - opcode::LOCAL0_OP), at + 1)
+        load_cell(set, val, wide(b - opcode::LOCAL0_OP), at + 1, w)
     } else {
-        term_arg(part, at, left, set, val)
+        term_arg(part, at, left, set, val, w)
     }
 }
 
@@ -120,22 +123,29 @@ pub(crate) fn term_arg(
     left: usize,
     set: &mut [bool; 15],
     val: &mut [u64; 15],
+    w: Width,
 ) -> Value
-    requires { ⌜ (length (now part) ≤ blockLimit) × Accepts (readTerm left 0 (drop at (now part))) ⌝ }
-    ensures { λ r. ⌜ evIn (now (set .exit)) (now (val .exit)) r ≡ evaledBy (eval width) at (readTerm left 0 (drop at (now (part .entry)))) (framed (now (set .entry)) (now (val .entry))) ⌝ }
+    requires { ⌜ TermReady (now part) at left ⌝ }
+    ensures { λ r. ⌜ evIn (now (set .exit)) (now (val .exit)) r ≡ evaledBy (eval frames (bits w)) at (readTerm left 0 (drop at (now (part .entry)))) (framed (now (set .entry)) (now (val .entry))) ⌝ }
 {
     let op = opcode::term_op(part[at]);
     match op {
-        TermOp::Constant(n) => Value::Num(n, at + 1),
-        TermOp::Ones => Value::Num(number::ALL_ONES, at + 1),
+        TermOp::Constant(n) => Value::Num(number::wrapped(n, w), at + 1),
         TermOp::Bytes(n) => Value::Num(
-            pkg_length::inner::little_endian(part, at + 1, n),
+            number::wrapped(pkg_length::inner::little_endian(part, at + 1, n), w),
             at + 1 + n,
         ),
-        TermOp::Cell(c) => load_cell(set, val, c, at + 1),
-        TermOp::Step(o) => step_cell(o, set, val, wide(part[at + 1] - opcode::LOCAL0_OP), at + 2),
-        TermOp::One(o, d) => one(part, at + 1, left - 1, o, d, set, val),
-        TermOp::Two(o, d) => two(part, at + 1, left - 1, o, d, set, val),
+        TermOp::Cell(c) => load_cell(set, val, c, at + 1, w),
+        TermOp::Step(o) => step_cell(
+            o,
+            set,
+            val,
+            wide(part[at + 1] - opcode::LOCAL0_OP),
+            at + 2,
+            w,
+        ),
+        TermOp::One(o, d) => one(part, at + 1, left - 1, o, d, set, val, w),
+        TermOp::Two(o, d) => two(part, at + 1, left - 1, o, d, set, val, w),
         TermOp::BadTerm => Value::Missing(0),
     }
 }
@@ -148,14 +158,15 @@ fn one(
     d: Dest,
     set: &mut [bool; 15],
     val: &mut [u64; 15],
+    w: Width,
 ) -> Value
     requires { ⌜ (length (now part) ≤ blockLimit) × Accepts (readOne (readTerm left) d 0 (drop at (now part))) ⌝ }
-    ensures { λ r. ⌜ evIn (now (set .exit)) (now (val .exit)) r ≡ evaledBy (evOne op) at (readOne (readTerm left) d 0 (drop at (now (part .entry)))) (framed (now (set .entry)) (now (val .entry))) ⌝ }
+    ensures { λ r. ⌜ evIn (now (set .exit)) (now (val .exit)) r ≡ evaledBy (evOne (bits w) op) at (readOne (readTerm left) d 0 (drop at (now (part .entry)))) (framed (now (set .entry)) (now (val .entry))) ⌝ }
 {
-    let a = eval(part, at, left, set, val);
+    let a = eval(part, at, left, set, val, w);
     match a {
         Value::Missing(c) => Value::Missing(c),
-        Value::Num(n, next) => store(part, next, d, number::unary(op, n), set, val),
+        Value::Num(n, next) => store(part, next, d, number::unary(op, n, w), set, val),
     }
 }
 
@@ -167,14 +178,15 @@ fn two(
     d: Dest,
     set: &mut [bool; 15],
     val: &mut [u64; 15],
+    w: Width,
 ) -> Value
     requires { ⌜ (length (now part) ≤ blockLimit) × Accepts (readTwo (readTerm left) d 0 (drop at (now part))) ⌝ }
-    ensures { λ r. ⌜ evIn (now (set .exit)) (now (val .exit)) r ≡ evaledBy (evTwo op) at (readTwo (readTerm left) d 0 (drop at (now (part .entry)))) (framed (now (set .entry)) (now (val .entry))) ⌝ }
+    ensures { λ r. ⌜ evIn (now (set .exit)) (now (val .exit)) r ≡ evaledBy (evTwo (bits w) op) at (readTwo (readTerm left) d 0 (drop at (now (part .entry)))) (framed (now (set .entry)) (now (val .entry))) ⌝ }
 {
-    let a = eval(part, at, left, set, val);
+    let a = eval(part, at, left, set, val, w);
     match a {
         Value::Missing(c) => Value::Missing(c),
-        Value::Num(n, next) => second(part, next, left, op, d, n, set, val),
+        Value::Num(n, next) => second(part, next, left, op, d, n, set, val, w),
     }
 }
 
@@ -188,13 +200,14 @@ fn second(
     n: u64,
     set: &mut [bool; 15],
     val: &mut [u64; 15],
+    w: Width,
 ) -> Value
     requires { ⌜ (length (now part) ≤ blockLimit) × Accepts (readOne (readTerm left) d 0 (drop at (now part))) ⌝ }
-    ensures { λ r. ⌜ evIn (now (set .exit)) (now (val .exit)) r ≡ evaledBy (evSecond op n) at (readOne (readTerm left) d 0 (drop at (now (part .entry)))) (framed (now (set .entry)) (now (val .entry))) ⌝ }
+    ensures { λ r. ⌜ evIn (now (set .exit)) (now (val .exit)) r ≡ evaledBy (evSecond (bits w) op n) at (readOne (readTerm left) d 0 (drop at (now (part .entry)))) (framed (now (set .entry)) (now (val .entry))) ⌝ }
 {
-    let b = eval(part, at, left, set, val);
+    let b = eval(part, at, left, set, val, w);
     match b {
         Value::Missing(c) => Value::Missing(c),
-        Value::Num(m, next) => store(part, next, d, number::binary(op, n, m), set, val),
+        Value::Num(m, next) => store(part, next, d, number::binary(op, n, m, w), set, val),
     }
 }

@@ -2,18 +2,19 @@
 use crate::eval::Value;
 use crate::eval::eval;
 use crate::eval::term_arg;
+use crate::number::Width;
 use crate::opcode;
 use crate::opcode::Plain;
 use crate::opcode::StmtOp;
 use pkg_length::PkgAnswer;
 ghost use mathlib.Core.Path.{_≡_};
-ghost use Prim.Native.Nat.{suc, _≤_, _<_};
+ghost use Prim.Native.Nat.{_≤_, _<_};
 ghost use lib.ListN.{length, drop};
 ghost use Rattle.pkg_length.specs.Refusal.{blockLimit, gives};
 ghost use Rattle.statement.specs.Grammar.{depthLimit};
 ghost use Rattle.statement.specs.Reader.{readTerm, readPackage, readHead, readElse, readIf, readStmt, readList};
 ghost use Rattle.statement.specs.Said.{upTo};
-ghost use Rattle.statement.specs.Lent.{Accepts, spanned, framed, ranIn, stepIn, turnIn, ranOf, stepOf, stepDo, whileDo, TurnsOk, turnOf, turnsBy, movedTo, plainTo, returnTo, dropTo};
+ghost use Rattle.statement.specs.Lent.{bits, Accepts, Spans, StmtReady, framed, ranIn, stepIn, turnIn, ranOf, stepOf, stepDo, whileDo, TurnsOk, turnOf, turnsBy, isFinished, turnsOn, whileOut, movedTo, plainTo, returnTo, dropTo};
 
 // How a statement or a list ended (parser.rs: Propagate).
 pub enum Out {
@@ -41,6 +42,48 @@ pub struct Moved {
 pub struct Span {
     pub raw: usize,
     pub used: usize,
+}
+
+// Whether a list goes on behind a statement that ended so.
+fn finished(out: Out) -> bool
+    ensures { λ r. ⌜ r ≡ isFinished out ⌝ }
+{
+    match out {
+        Out::Finished => true,
+        Out::Returned(_) => false,
+        Out::BreakOut => false,
+        Out::ContinueOut => false,
+        Out::Spent => false,
+        Out::Unset(_) => false,
+    }
+}
+
+// Whether a While goes on behind a body that ended so.
+fn turns_on(out: Out) -> bool
+    ensures { λ r. ⌜ r ≡ turnsOn out ⌝ }
+{
+    match out {
+        Out::Finished => true,
+        Out::Returned(_) => false,
+        Out::BreakOut => false,
+        Out::ContinueOut => true,
+        Out::Spent => false,
+        Out::Unset(_) => false,
+    }
+}
+
+// How it ends, where it does not.
+fn while_out(out: Out) -> Out
+    ensures { λ r. ⌜ r ≡ whileOut out ⌝ }
+{
+    match out {
+        Out::Finished => Out::Finished,
+        Out::Returned(n) => Out::Returned(n),
+        Out::BreakOut => Out::Finished,
+        Out::ContinueOut => Out::Finished,
+        Out::Spent => Out::Spent,
+        Out::Unset(c) => Out::Unset(c),
+    }
 }
 
 fn finish(r: Done, next: usize) -> Moved
@@ -118,7 +161,7 @@ fn dropped(v: Value, units: u64) -> Moved
 
 fn pkg(part: &[u8], at: usize) -> Span
     requires { ⌜ (at ≤ length (now part)) × (length (now part) ≤ blockLimit) × Accepts (readPackage 0 (drop at (now part))) ⌝ }
-    ensures { λ r. ⌜ gives (spanned r) ≡ readPackage 0 (drop at (now (part .entry))) ⌝ }
+    ensures { λ r. ⌜ Spans (now (part .entry)) at r ⌝ }
 {
     let w = pkg_length::pkg_length(&part[at..]);
     match w {
@@ -141,8 +184,8 @@ fn else_end(part: &[u8], at: usize, left: usize) -> usize
     if part[at] != opcode::DEF_ELSE_OP {
         return at;
     }
-    let w = pkg(part, at + 1);
-    at + 1 + w.raw
+    let p = pkg(part, at + 1);
+    at + 1 + p.raw
 }
 
 pub(crate) fn term_list(
@@ -151,40 +194,24 @@ pub(crate) fn term_list(
     set: &mut [bool; 15],
     val: &mut [u64; 15],
     units: u64,
+    w: Width,
 ) -> Done
     requires { ⌜ (length (now part) ≤ blockLimit) × Accepts (readList left 0 (now part)) ⌝ }
-    ensures { λ r. ⌜ ranIn (now (set .exit)) (now (val .exit)) r ≡ ranOf (readList left 0 (now (part .entry))) (framed (now (set .entry)) (now (val .entry))) units ⌝ }
+    ensures { λ r. ⌜ ranIn (now (set .exit)) (now (val .exit)) r ≡ ranOf (bits w) (readList left 0 (now (part .entry))) (framed (now (set .entry)) (now (val .entry))) units ⌝ }
 {
     let mut at = 0;
     let mut u = units;
     while at < part.len() {
-        let r = statement_opcode(part, at, left, set, val, u);
+        let r = statement_opcode(part, at, left, set, val, u, w);
         let e = r.out;
-        match e {
-            Out::Finished => {
-                at = r.next;
-                u = r.units;
-            }
-            Out::Returned(n) => return Done {
+        if finished(e) {
+            at = r.next;
+            u = r.units;
+        } else {
+            return Done {
                 units: r.units,
-                out: Out::Returned(n),
-            },
-            Out::BreakOut => return Done {
-                units: r.units,
-                out: Out::BreakOut,
-            },
-            Out::ContinueOut => return Done {
-                units: r.units,
-                out: Out::ContinueOut,
-            },
-            Out::Spent => return Done {
-                units: r.units,
-                out: Out::Spent,
-            },
-            Out::Unset(c) => return Done {
-                units: r.units,
-                out: Out::Unset(c),
-            },
+                out: e,
+            };
         }
     }
     Done {
@@ -200,9 +227,10 @@ fn statement_opcode(
     set: &mut [bool; 15],
     val: &mut [u64; 15],
     units: u64,
+    w: Width,
 ) -> Moved
-    requires { ⌜ (at < length (now part)) × (length (now part) ≤ blockLimit) × Accepts (readStmt left 0 (drop at (now part))) ⌝ }
-    ensures { λ r. ⌜ stepIn (now (set .exit)) (now (val .exit)) r ≡ stepOf at (readStmt left 0 (drop at (now (part .entry)))) (framed (now (set .entry)) (now (val .entry))) units ⌝ }
+    requires { ⌜ StmtReady (now part) at left ⌝ }
+    ensures { λ r. ⌜ stepIn (now (set .exit)) (now (val .exit)) r ≡ stepOf (bits w) at (readStmt left 0 (drop at (now (part .entry)))) (framed (now (set .entry)) (now (val .entry))) units ⌝ }
 {
     if units == 0 {
         return Moved {
@@ -215,10 +243,15 @@ fn statement_opcode(
     let op = opcode::stmt_op(part[at]);
     match op {
         StmtOp::Simple(o) => plain(o, u, at + 1),
-        StmtOp::Return => def_return(eval(part, at + 1, 16, set, val), u),
-        StmtOp::If => def_if_else(part, at + 1, left - 1, set, val, u),
-        StmtOp::While => def_while(part, at + 1, left - 1, set, val, u),
-        StmtOp::Expr => dropped(term_arg(part, at, 16, set, val), u),
+        StmtOp::Return => def_return(eval(part, at + 1, 16, set, val, w), u),
+        StmtOp::If => def_if_else(part, at + 1, left - 1, set, val, u, w),
+        StmtOp::While => def_while(part, at + 1, left - 1, set, val, u, w),
+        StmtOp::Expr => dropped(term_arg(part, at, 16, set, val, w), u),
+        StmtOp::BadStmt => Moved {
+            units: 0,
+            next: 0,
+            out: Out::Finished,
+        },
     }
 }
 
@@ -230,13 +263,14 @@ fn def_if_else(
     set: &mut [bool; 15],
     val: &mut [u64; 15],
     units: u64,
+    w: Width,
 ) -> Moved
     requires { ⌜ (at ≤ length (now part)) × (length (now part) ≤ blockLimit) × Accepts (readIf (readList left) 0 (drop at (now part))) ⌝ }
-    ensures { λ r. ⌜ stepIn (now (set .exit)) (now (val .exit)) r ≡ stepDo at (readIf (readList left) 0 (drop at (now (part .entry)))) (framed (now (set .entry)) (now (val .entry))) units ⌝ }
+    ensures { λ r. ⌜ stepIn (now (set .exit)) (now (val .exit)) r ≡ stepDo (bits w) at (readIf (readList left) 0 (drop at (now (part .entry)))) (framed (now (set .entry)) (now (val .entry))) units ⌝ }
 {
-    let w = pkg(part, at);
-    let end = at + w.raw;
-    let v = eval(part, at + w.used, 16, set, val);
+    let p = pkg(part, at);
+    let end = at + p.raw;
+    let v = eval(part, at + p.used, 16, set, val, w);
     match v {
         Value::Missing(c) => Moved {
             units,
@@ -246,9 +280,9 @@ fn def_if_else(
         Value::Num(predicate, body) => {
             let next = else_end(part, end, left);
             if predicate == 0 {
-                finish(def_else(part, end, left, set, val, units), next)
+                finish(def_else(part, end, left, set, val, units, w), next)
             } else {
-                finish(term_list(&part[body..end], left, set, val, units), next)
+                finish(term_list(&part[body..end], left, set, val, units, w), next)
             }
         }
     }
@@ -262,9 +296,10 @@ fn def_else(
     set: &mut [bool; 15],
     val: &mut [u64; 15],
     units: u64,
+    w: Width,
 ) -> Done
     requires { ⌜ (at ≤ length (now part)) × (length (now part) ≤ blockLimit) × Accepts (readElse (readList left) 0 (drop at (now part))) ⌝ }
-    ensures { λ r. ⌜ ranIn (now (set .exit)) (now (val .exit)) r ≡ ranOf (readElse (readList left) 0 (drop at (now (part .entry)))) (framed (now (set .entry)) (now (val .entry))) units ⌝ }
+    ensures { λ r. ⌜ ranIn (now (set .exit)) (now (val .exit)) r ≡ ranOf (bits w) (readElse (readList left) 0 (drop at (now (part .entry)))) (framed (now (set .entry)) (now (val .entry))) units ⌝ }
 {
     if part.len() <= at {
         return Done {
@@ -278,10 +313,10 @@ fn def_else(
             out: Out::Finished,
         };
     }
-    let w = pkg(part, at + 1);
-    let body = at + 1 + w.used;
-    let end = at + 1 + w.raw;
-    term_list(&part[body..end], left, set, val, units)
+    let p = pkg(part, at + 1);
+    let body = at + 1 + p.used;
+    let end = at + 1 + p.raw;
+    term_list(&part[body..end], left, set, val, units, w)
 }
 
 fn def_while(
@@ -291,13 +326,14 @@ fn def_while(
     set: &mut [bool; 15],
     val: &mut [u64; 15],
     units: u64,
+    w: Width,
 ) -> Moved
     requires { ⌜ (at ≤ length (now part)) × (length (now part) ≤ blockLimit) × Accepts (readHead (readList left) 0 (drop at (now part))) ⌝ }
-    ensures { λ r. ⌜ stepIn (now (set .exit)) (now (val .exit)) r ≡ whileDo at (readHead (readList left) 0 (drop at (now (part .entry)))) (framed (now (set .entry)) (now (val .entry))) units ⌝ }
+    ensures { λ r. ⌜ stepIn (now (set .exit)) (now (val .exit)) r ≡ whileDo (bits w) at (readHead (readList left) 0 (drop at (now (part .entry)))) (framed (now (set .entry)) (now (val .entry))) units ⌝ }
 {
-    let w = pkg(part, at);
-    let end = at + w.raw;
-    finish(turns(part, at + w.used, end, left, set, val, units), end)
+    let p = pkg(part, at);
+    let end = at + p.raw;
+    finish(turns(part, at + p.used, end, left, set, val, units, w), end)
 }
 
 fn turns(
@@ -308,46 +344,22 @@ fn turns(
     set: &mut [bool; 15],
     val: &mut [u64; 15],
     units: u64,
+    w: Width,
 ) -> Done
     requires { ⌜ (end ≤ length (now part)) × (length (now part) ≤ blockLimit) × TurnsOk left (now part) end at (readTerm depthLimit 0 (drop at (now part))) ⌝ }
-    ensures { λ r. ⌜ ranIn (now (set .exit)) (now (val .exit)) r ≡ turnsBy left (now (part .entry)) end at (readTerm depthLimit 0 (drop at (now (part .entry)))) (suc units) (framed (now (set .entry)) (now (val .entry))) units ⌝ }
+    ensures { λ r. ⌜ ranIn (now (set .exit)) (now (val .exit)) r ≡ turnsBy left (now (part .entry)) end at (bits w) (readTerm depthLimit 0 (drop at (now (part .entry)))) (framed (now (set .entry)) (now (val .entry))) units ⌝ }
 {
     let mut u = units;
     loop {
-        let t = turn(part, at, end, left, set, val, u);
+        let t = turn(part, at, end, left, set, val, u, w);
         let d = t.out;
-        match d {
-            // The next turn.
-            Out::Finished => {
-                u = t.units; // after the body
-            }
-            Out::ContinueOut => {
-                u = t.units; // after a Continue
-            }
-            Out::Returned(n) => {
-                return Done {
-                    units: t.units,
-                    out: Out::Returned(n),
-                };
-            }
-            Out::BreakOut => {
-                return Done {
-                    units: t.units,
-                    out: Out::Finished,
-                };
-            }
-            Out::Spent => {
-                return Done {
-                    units: t.units,
-                    out: Out::Spent,
-                };
-            }
-            Out::Unset(c) => {
-                return Done {
-                    units: t.units,
-                    out: Out::Unset(c),
-                };
-            }
+        if turns_on(d) {
+            u = t.units; // after the body, or a Continue
+        } else {
+            return Done {
+                units: t.units,
+                out: while_out(d),
+            };
         }
     }
 }
@@ -361,9 +373,10 @@ fn turn(
     set: &mut [bool; 15],
     val: &mut [u64; 15],
     units: u64,
+    w: Width,
 ) -> Done
     requires { ⌜ (end ≤ length (now part)) × (length (now part) ≤ blockLimit) × TurnsOk left (now part) end at (readTerm depthLimit 0 (drop at (now part))) ⌝ }
-    ensures { λ r. ⌜ turnIn (now (set .exit)) (now (val .exit)) r ≡ turnOf left (now (part .entry)) end at (readTerm depthLimit 0 (drop at (now (part .entry)))) (framed (now (set .entry)) (now (val .entry))) units ⌝ }
+    ensures { λ r. ⌜ turnIn (now (set .exit)) (now (val .exit)) r ≡ turnOf left (now (part .entry)) end at (bits w) (readTerm depthLimit 0 (drop at (now (part .entry)))) (framed (now (set .entry)) (now (val .entry))) units ⌝ }
 {
     if units == 0 {
         return Done {
@@ -371,7 +384,7 @@ fn turn(
             out: Out::Spent,
         };
     }
-    let v = eval(part, at, 16, set, val);
+    let v = eval(part, at, 16, set, val, w);
     match v {
         Value::Missing(c) => Done {
             units: units - 1,
@@ -384,7 +397,7 @@ fn turn(
                     out: Out::BreakOut,
                 };
             }
-            term_list(&part[body..end], left, set, val, units - 1)
+            term_list(&part[body..end], left, set, val, units - 1, w)
         }
     }
 }

@@ -1,6 +1,7 @@
 // Control blocks (statement.rs): the check of a block, and its run.
 use crate::exec::Out;
 use crate::frame::Frame;
+use crate::number::Width;
 use pkg_length::AmlError;
 ghost use mathlib.Core.Path.{_≡_};
 ghost use Rattle.statement.specs.Lent.{outSaid};
@@ -65,7 +66,7 @@ pub fn run(block: &[u8], frame: Frame, budget: u64) -> RunAnswer
         CheckAnswer::Accepted => {
             let mut set = frame.set;
             let mut val = frame.val;
-            let r = exec::term_list(block, 16, &mut set, &mut val, budget);
+            let r = exec::term_list(block, 16, &mut set, &mut val, budget, Width::Bits64);
             let out = r.out;
             let end = ended(out);
             let left = Frame { set, val };

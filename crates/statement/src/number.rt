@@ -1,20 +1,44 @@
-// What the operators work out, on numbers of 64 bits.
+// What the operators work out, on numbers of 32 or 64 bits.
 use crate::opcode::OneOp;
 use crate::opcode::StepOp;
 use crate::opcode::TwoOp;
 ghost use mathlib.Core.Path.{_≡_};
 ghost use mathlib.Core.Bool.{not};
+ghost use Prim.Native.Nat.{_%_, _^_};
 ghost use lib.Dec.{eqb};
 ghost use Rattle.statement.specs.Meaning as meaning;
-ghost use Rattle.statement.specs.Meaning.{width};
+ghost use Rattle.statement.specs.Lent.{bits};
 
-pub const ALL_ONES: u64 = 0xffff_ffff_ffff_ffff;
+// How many bits numbers have.
+pub enum Width {
+    Bits32,
+    Bits64,
+}
+
+fn all_ones(w: Width) -> u64
+    ensures { λ r. ⌜ r ≡ meaning.allOnes (bits w) ⌝ }
+{
+    match w {
+        Width::Bits32 => 0xffff_ffff,
+        Width::Bits64 => 0xffff_ffff_ffff_ffff,
+    }
+}
+
+// The low bits of a number.
+pub(crate) fn wrapped(n: u64, w: Width) -> u64
+    ensures { λ r. ⌜ r ≡ n % 2 ^ bits w ⌝ }
+{
+    match w {
+        Width::Bits32 => n % 0x1_0000_0000,
+        Width::Bits64 => n,
+    }
+}
 
 // True is all ones.
-fn truth(holds: bool) -> u64
-    ensures { λ r. ⌜ r ≡ meaning.truth width holds ⌝ }
+fn truth(holds: bool, w: Width) -> u64
+    ensures { λ r. ⌜ r ≡ meaning.truth (bits w) holds ⌝ }
 {
-    if holds { ALL_ONES } else { 0 }
+    if holds { all_ones(w) } else { 0 }
 }
 
 fn both(a: u64, b: u64) -> bool
@@ -35,34 +59,34 @@ fn either(a: u64, b: u64) -> bool
     true
 }
 
-pub(crate) fn stepped(op: StepOp, n: u64) -> u64
-    ensures { λ r. ⌜ r ≡ meaning.stepped width op n ⌝ }
+pub(crate) fn stepped(op: StepOp, n: u64, w: Width) -> u64
+    ensures { λ r. ⌜ r ≡ meaning.stepped (bits w) op n ⌝ }
 {
     match op {
-        StepOp::Increment => std::num::wrapping_add_u64(n, 1),
-        StepOp::Decrement => std::num::wrapping_add_u64(n, ALL_ONES),
+        StepOp::Increment => wrapped(std::num::wrapping_add_u64(n, 1), w),
+        StepOp::Decrement => wrapped(std::num::wrapping_add_u64(n, all_ones(w)), w),
     }
 }
 
-pub(crate) fn unary(op: OneOp, n: u64) -> u64
-    ensures { λ r. ⌜ r ≡ meaning.unary width op n ⌝ }
+pub(crate) fn unary(op: OneOp, n: u64, w: Width) -> u64
+    ensures { λ r. ⌜ r ≡ meaning.unary (bits w) op n ⌝ }
 {
     match op {
         OneOp::Store => n,
-        OneOp::LNot => truth(n == 0),
+        OneOp::LNot => truth(n == 0, w),
     }
 }
 
-pub(crate) fn binary(op: TwoOp, a: u64, b: u64) -> u64
-    ensures { λ r. ⌜ r ≡ meaning.binary width op a b ⌝ }
+pub(crate) fn binary(op: TwoOp, a: u64, b: u64, w: Width) -> u64
+    ensures { λ r. ⌜ r ≡ meaning.binary (bits w) op a b ⌝ }
 {
     match op {
-        TwoOp::Add => std::num::wrapping_add_u64(a, b),
+        TwoOp::Add => wrapped(std::num::wrapping_add_u64(a, b), w),
         TwoOp::And => a & b,
-        TwoOp::LAnd => truth(both(a, b)),
-        TwoOp::LOr => truth(either(a, b)),
-        TwoOp::LEqual => truth(a == b),
-        TwoOp::LGreater => truth(b < a),
-        TwoOp::LLess => truth(a < b),
+        TwoOp::LAnd => truth(both(a, b), w),
+        TwoOp::LOr => truth(either(a, b), w),
+        TwoOp::LEqual => truth(a == b, w),
+        TwoOp::LGreater => truth(b < a, w),
+        TwoOp::LLess => truth(a < b, w),
     }
 }

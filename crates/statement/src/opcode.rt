@@ -1,6 +1,6 @@
 // The opcodes of control blocks under the Rust's names (opcode.rs), and what each byte starts.
 ghost use mathlib.Core.Path.{_≡_};
-ghost use Rattle.statement.specs.Opcode.{isCell, termOp, stmtOp, expression};
+ghost use Rattle.statement.specs.Opcode.{isCell, asStmt, termOp, stmtOp};
 
 pub const NULL_NAME: u8 = 0x00;
 
@@ -99,10 +99,9 @@ pub enum Dest {
     ToTarget,
 }
 
-// What a byte starts as a term, by shape: a number, all ones, a number of so many bytes, a cell, a step of a cell, an operator of one or of two operands.
+// What a byte starts as a term, by shape: a number, a number of so many bytes, a cell, a step of a cell, an operator of one or of two operands.
 pub enum TermOp {
     Constant(u64),
-    Ones,
     Bytes(usize),
     Cell(usize),
     Step(StepOp),
@@ -117,6 +116,7 @@ pub enum StmtOp {
     If,
     While,
     Expr,
+    BadStmt,
 }
 
 pub(crate) fn is_cell(b: u8) -> bool
@@ -143,7 +143,7 @@ pub(crate) fn term_op(b: u8) -> TermOp
     match b {
         ZERO_OP => TermOp::Constant(0),
         ONE_OP => TermOp::Constant(1),
-        ONES_OP => TermOp::Ones,
+        ONES_OP => TermOp::Constant(0xffff_ffff_ffff_ffff),
         BYTE_CONST => TermOp::Bytes(1),
         WORD_CONST => TermOp::Bytes(2),
         DWORD_CONST => TermOp::Bytes(4),
@@ -163,7 +163,7 @@ pub(crate) fn term_op(b: u8) -> TermOp
     }
 }
 
-// A statement of its own, or else an expression, if it is one.
+// A statement of its own, or what it is as a term.
 pub(crate) fn stmt_op(b: u8) -> StmtOp
     ensures { λ r. ⌜ r ≡ stmtOp b ⌝ }
 {
@@ -175,23 +175,21 @@ pub(crate) fn stmt_op(b: u8) -> StmtOp
         DEF_RETURN_OP => StmtOp::Return,
         DEF_IF_ELSE_OP => StmtOp::If,
         DEF_WHILE_OP => StmtOp::While,
-        _ => StmtOp::Expr,
+        _ => as_stmt(term_op(b)),
     }
 }
 
-// Whether a term that starts so may stand as a statement.
-pub(crate) fn is_expr(b: u8) -> bool
-    ensures { λ r. ⌜ r ≡ expression (termOp b) ⌝ }
+// A term that starts so, as a statement.
+fn as_stmt(op: TermOp) -> StmtOp
+    ensures { λ r. ⌜ r ≡ asStmt op ⌝ }
 {
-    let op = term_op(b);
     match op {
-        TermOp::Constant(_) => false,
-        TermOp::Ones => false,
-        TermOp::Bytes(_) => false,
-        TermOp::Cell(_) => false,
-        TermOp::Step(_) => true,
-        TermOp::One(_, _) => true,
-        TermOp::Two(_, _) => true,
-        TermOp::BadTerm => false,
+        TermOp::Constant(_) => StmtOp::BadStmt,
+        TermOp::Bytes(_) => StmtOp::BadStmt,
+        TermOp::Cell(_) => StmtOp::BadStmt,
+        TermOp::Step(_) => StmtOp::Expr,
+        TermOp::One(_, _) => StmtOp::Expr,
+        TermOp::Two(_, _) => StmtOp::Expr,
+        TermOp::BadTerm => StmtOp::BadStmt,
     }
 }

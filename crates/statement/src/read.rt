@@ -13,7 +13,7 @@ ghost use mathlib.Core.Path.{_≡_};
 ghost use Prim.Native.Nat.{_+_, _≤_, _<_};
 ghost use lib.ListN.{length, drop};
 ghost use Rattle.pkg_length.specs.Refusal.{blockLimit};
-ghost use Rattle.statement.specs.Reader.{readPackage, readHead, readElse, readIf, readExpr, readStmt, readList};
+ghost use Rattle.statement.specs.Reader.{readPackage, readHead, readElse, readIf, readStmt, readList};
 ghost use Rattle.statement.specs.Said.{reached, packed, upTo};
 
 // A package's raw length, if reading goes on, and how many bytes spell it.
@@ -72,19 +72,8 @@ fn statement_opcode(part: &[u8], base: usize, at: usize, left: usize) -> Reach
         StmtOp::Return => term_arg(part, base, at + 1, 16),
         StmtOp::If => def_if_else(part, base, at + 1, left - 1),
         StmtOp::While => predicate_and_body(part, base, at + 1, left - 1),
-        StmtOp::Expr => expression_opcode(part, base, at),
-    }
-}
-
-// A term that starts with an expression opcode.
-fn expression_opcode(part: &[u8], base: usize, at: usize) -> Reach
-    requires { ⌜ (at < length (now part)) × (base + length (now part) ≤ blockLimit) ⌝ }
-    ensures { λ r. ⌜ reached r ≡ upTo at (readExpr (base + at) (drop at (now (part .entry)))) ⌝ }
-{
-    if opcode::is_expr(part[at]) {
-        term_arg(part, base, at, 16)
-    } else {
-        Reach(BAD_OPCODE, base + at)
+        StmtOp::Expr => term_arg(part, base, at, 16),
+        StmtOp::BadStmt => Reach(BAD_OPCODE, base + at),
     }
 }
 

@@ -8,7 +8,7 @@ ghost use mathlib.Core.Path.{_≡_};
 ghost use Prim.Native.Nat.{_+_, _≤_};
 ghost use lib.ListN.{length, drop};
 ghost use Rattle.pkg_length.specs.Refusal.{blockLimit};
-ghost use Rattle.statement.specs.Reader.{readBytes, readCell, readDest, readOne, readTwo, readTerm};
+ghost use Rattle.statement.specs.Reader.{readBytes, readPlace, readDest, readOne, readTwo, readTerm};
 ghost use Rattle.statement.specs.Said.{refusalOf, reached, upTo};
 
 // What is said, and a place: NEXT, and where reading goes on; or a refusal, and its place. Two numbers, since an enum here makes the check twice as slow.
@@ -52,7 +52,7 @@ fn bytes(part: &[u8], base: usize, at: usize, n: usize) -> Reach
 // A written cell.
 fn cell(part: &[u8], base: usize, at: usize) -> Reach
     requires { ⌜ (at ≤ length (now part)) × (base + length (now part) ≤ blockLimit) ⌝ }
-    ensures { λ r. ⌜ reached r ≡ upTo at (readCell (base + at) (drop at (now (part .entry)))) ⌝ }
+    ensures { λ r. ⌜ reached r ≡ upTo at (readPlace (base + at) (drop at (now (part .entry)))) ⌝ }
 {
     if part.len() <= at {
         return Reach(UNEXPECTED_END, base + at);
@@ -102,7 +102,6 @@ pub(crate) fn term_arg(part: &[u8], base: usize, at: usize, left: usize) -> Reac
     let op = opcode::term_op(part[at]);
     match op {
         TermOp::Constant(_) => Reach(NEXT, at + 1),
-        TermOp::Ones => Reach(NEXT, at + 1),
         TermOp::Bytes(n) => bytes(part, base, at + 1, n),
         TermOp::Cell(_) => Reach(NEXT, at + 1),
         TermOp::Step(_) => cell(part, base, at + 1),

@@ -1,8 +1,14 @@
 -- The check's refusal, or the meaning of what it read.
-use mathlib.Core.Path.{ap}
+use mathlib.Core.Path.{_≡_, ap}
+use mathlib.Core.List.{List}
+use Prim.Native.Nat.{ℕ, _≤_}
+use Rattle.pkg_length.specs.Refusal.{Answer}
+use Rattle.statement.specs.declared.frame.Frame.{Frame}
 use Rattle.statement.specs.Grammar.{depthLimit}
 use Rattle.statement.specs.Reader.{readList}
-use Rattle.statement.specs.Meaning.{Ran}
+use Rattle.statement.specs.Meaning.{width, Ended, ran}
+use Rattle.statement.specs.Lent.{ranOf}
+use Rattle.statement.proofs.Units.{leftOf}
 use Rattle.statement.proofs.Runs.{ran-left}
 use Rattle.statement.proofs.Theorems.{run-ready, run-from-refusal, run-from-meaning}
 use borrow.Author.Needs.{needs}
@@ -17,11 +23,10 @@ term-list-requires c κs =
     let c-enum-told = c .before .before .before .before .enum-told in
     run-ready (c-args .block .now) (c-check .result) (c-check .ensures) (c-enum-told .given .1)
 
-sub-t18 : tie.Need-sub-t18
-sub-t18 c =
-    let a = c .before .before .before .before .before .before .before .before .before .before .before .args in
-    let z = ran-left (readList depthLimit 0 (a .block .now)) (a .frame) (a .budget) in
-    omega (arith, z, ap (λ (r : Ran). r .left) (c .before .before .term-list .ensures))
+-- no run makes units
+used : (s : List ℕ) (f g : Frame) (budget u : ℕ) (a : Answer Ended) → ran g u a ≡ ranOf width (readList depthLimit 0 s) f budget → u ≤ budget
+unfolding leftOf
+used s f g budget u a e = omega (arith, ran-left width (readList depthLimit 0 s) f budget, ap leftOf e)
 
 returns : tie.Need-returns
 returns c =
@@ -34,9 +39,11 @@ returns-2 c =
     let c-enum-told = c .before .before .before .before .before .before .before .enum-told in
     let c-ended = c .before .ended in
     let a = c .before .before .before .before .before .before .before .before .before .before .before .args in
-    run-from-meaning (a .block .now) (a .frame) (a .budget) (c-check .result) _ (c-ended .result) (c-check .ensures) (c-enum-told .given .1)
+    run-from-meaning (a .block .now) (a .frame) (a .budget) (c-check .result) _ _ _ (c-ended .result) (c-check .ensures) (c-enum-told .given .1)
     (c .before .before .term-list .ensures) (c-ended .ensures)
 
 pub run-spec : {M : Type 1} → statement M
 run-spec =
-    tie.close (tie.spec (λ c κs. search needs) (λ c. search needs) (λ c. search needs) term-list-requires (λ c κs. search needs) sub-t18 returns returns-2)
+    tie.close (tie.spec (λ c κs. search needs) (λ c. search needs) (λ c. search needs) term-list-requires (λ c κs. search needs)
+    (λ c. let a = c .before .before .before .before .before .before .before .before .before .before .before .args in
+    omega (arith, used (a .block .now) (a .frame) _ (a .budget) _ _ (c .before .before .term-list .ensures))) returns returns-2)

@@ -1,14 +1,16 @@
 -- Each return is one law of Runs; what a call requires is a part of what was read. Calls fall by the depths left alone.
-use mathlib.Core.Path.{_≡_, refl, sym, _∙_, ap}
-use Prim.Native.Nat.{ℕ, suc, _<_, _≤_, _+_, _-_, _*_}
-use lib.ListN.{length, drop, length-take, length-drop}
-use Rattle.pkg_length.specs.Refusal.{gives}
-use Rattle.statement.specs.declared.exec.Out.{Out}
+use mathlib.Core.Path.{_≡_, refl, sym, _∙_}
+use Prim.Native.Nat.{ℕ, _<_, _≤_, _+_, _-_, _*_}
+use lib.ListN.{length, take, drop, getD}
+use Rattle.pkg_length.specs.Refusal.{blockLimit}
+use Rattle.statement.specs.declared.frame.Frame.{Frame}
+use Rattle.statement.specs.declared.opcode.StmtOp.{StmtOp}
+use Rattle.statement.specs.declared.opcode.StmtOp.the-variants.{Return, If, While}
 use Rattle.statement.specs.Grammar.{depthLimit}
-use Rattle.statement.specs.Reader.{readTerm, readList}
-use Rattle.statement.specs.Meaning.{finished, ended, goOf}
-use Rattle.statement.specs.Lent.{Accepts, spanned, framed, outSaid, wayOf, stepAt, stepF, ranOf, turnsBy}
-use Rattle.statement.proofs.Reaches.{package-in}
+use Rattle.statement.specs.Reader.{readTerm, readHead, readElse, readIf, stmtBy, readStmt, readList}
+use Rattle.statement.specs.Meaning.{Ran}
+use Rattle.statement.specs.Lent.{bits, Accepts, spanned, framed, Way, ranOf, stepOf, stepDo, turnsBy}
+use Rattle.statement.proofs.Evals as evals
 use Rattle.statement.proofs.Runs as runs
 use borrow.Author.Needs.{needs}
 use native.Mathlib.Omega.{arith}
@@ -40,6 +42,9 @@ use Rattle.statement.proofs.exec.dropped.Reads as dropped-reads
 use Rattle.statement.proofs.exec.else_end.Reads as else-end-reads
 use Rattle.statement.proofs.eval.eval.Reads as eval-reads
 use Rattle.statement.proofs.exec.finish.Reads as finish-reads
+use Rattle.statement.proofs.exec.finished.Reads as finished-reads
+use Rattle.statement.proofs.exec.turns_on.Reads as turns-on-reads
+use Rattle.statement.proofs.exec.while_out.Reads as while-out-reads
 use Rattle.statement.proofs.exec.pkg.Reads as pkg-reads
 use Rattle.statement.proofs.exec.plain.Reads as plain-reads
 use Rattle.statement.proofs.eval.term_arg.Reads as term-arg-reads
@@ -127,843 +132,389 @@ abbrev statement-opcode-claims : ℕ → statement-opcode-lts.Claims
 statement-opcode-claims t = (stmt-op-reads.Asked, stmt-op-reads.Learnt, plain-reads.Asked, plain-reads.Learnt, eval-reads.Asked, eval-reads.Learnt, def-return-reads.Asked, def-return-reads.Learnt, def-if-else-below t, def-if-else.Post, def-while-below t, def-while.Post, term-arg-reads.Asked, term-arg-reads.Learnt, dropped-reads.Asked, dropped-reads.Learnt)
 
 abbrev term-list-claims : ℕ → term-list-lts.Claims
-term-list-claims t = (statement-opcode-below t, statement-opcode.Post)
+term-list-claims t = (statement-opcode-below t, statement-opcode.Post, finished-reads.Asked, finished-reads.Learnt)
 
 abbrev turn-claims : ℕ → turn-lts.Claims
 turn-claims t = (eval-reads.Asked, eval-reads.Learnt, term-list-below t, term-list.Post)
 
+abbrev turns-claims : ℕ → turns-lts.Claims
+turns-claims t = (turn-below t, turn.Post, turns-on-reads.Asked, turns-on-reads.Learnt, while-out-reads.Asked, while-out-reads.Learnt)
+
 def-else-returns : (t : ℕ) → def-else-lts.Need-returns (def-else-claims t) (def-else-at t) def-else.Post
 def-else-returns t c =
-    let a = c .before .before .args in
-    let s = a .part .now in
-    let g = framed (a .set .now) (a .val .now) in
-    runs.else-none (a .left) (a .at) s g (a .units) (c .if1 .taken)
+    let a = c .before .before .args in runs.else-none (bits (a .w)) (a .left) (a .at) (a .part .now) (framed (a .set .now) (a .val .now)) (a .units) (c .if1 .taken)
 
 def-else-returns-2 : (t : ℕ) → def-else-lts.Need-returns-2 (def-else-claims t) (def-else-at t) def-else.Post
 def-else-returns-2 t c =
-    let a = c .before .before .before .before .args in
-    let s = a .part .now in
-    let g = framed (a .set .now) (a .val .now) in
-    runs.else-other (a .left) (a .at) s g (a .units) (c .before .before .if1 .left) (c .if2 .taken)
+    let a = c .before .before .before .before .args in runs.else-other (bits (a .w)) (a .left) (a .at) (a .part .now) (framed (a .set .now) (a .val .now)) (a .units) (c .before .before .if1 .left) (c .if2 .taken)
 
 def-else-pkg-requires : (t : ℕ) → def-else-lts.Need-pkg-requires (def-else-claims t) (def-else-at t) def-else.Post
 def-else-pkg-requires t c κs =
     let a = c .before .before .before .before .args in
-    let s = a .part .now in
-    let g = framed (a .set .now) (a .val .now) in
-    let acc = c .before .before .before .before .pre .1 .2 in
-    (omega (arith, c .before .before .if1 .left), c .before .before .before .before .pre .1 .1, runs.else-package (a .left) (a .at) s (c .before .before .if1 .left) (c .if2 .left) acc)
-
-def-else-add-body-2 : (t : ℕ) → def-else-lts.Need-add-body-2 (def-else-claims t) (def-else-at t) def-else.Post
-def-else-add-body-2 t c =
-    let a = c .before .before .before .before .before .before .args in
-    let s = a .part .now in
-    let g = framed (a .set .now) (a .val .now) in
-    let acc = c .before .before .before .before .before .before .pre .1 .2 in
-    let w = spanned (c .before .pkg .result) in
-    let ew = c .before .pkg .ensures in
-    let pk = package-in 0 (a .at + 1) s (w .raw) (w .used) ew (omega (arith, c .before .before .before .before .if1 .left)) in
-    omega (arith, pk, c .before .before .before .before .before .before .pre .1 .1)
-
-def-else-add-end-2 : (t : ℕ) → def-else-lts.Need-add-end-2 (def-else-claims t) (def-else-at t) def-else.Post
-def-else-add-end-2 t c =
-    let a = c .before .before .before .before .before .before .before .args in
-    let s = a .part .now in
-    let g = framed (a .set .now) (a .val .now) in
-    let acc = c .before .before .before .before .before .before .before .pre .1 .2 in
-    let w = spanned (c .before .before .pkg .result) in
-    let ew = c .before .before .pkg .ensures in
-    let pk = package-in 0 (a .at + 1) s (w .raw) (w .used) ew (omega (arith, c .before .before .before .before .before .if1 .left)) in
-    omega (arith, pk, c .before .before .before .before .before .before .before .pre .1 .1)
-
-def-else-sub-term-list : (t : ℕ) → def-else-lts.Need-sub-term-list (def-else-claims t) (def-else-at t) def-else.Post
-def-else-sub-term-list t c =
-    let a = c .before .before .before .before .before .before .before .args in
-    let s = a .part .now in
-    let g = framed (a .set .now) (a .val .now) in
-    let acc = c .before .before .before .before .before .before .before .pre .1 .2 in
-    let w = spanned (c .before .before .pkg .result) in
-    let ew = c .before .before .pkg .ensures in
-    let pk = package-in 0 (a .at + 1) s (w .raw) (w .used) ew (omega (arith, c .before .before .before .before .before .if1 .left)) in
-    omega (arith, pk, c .before .before .before .before .before .before .before .pre .1 .1)
-
-def-else-part-term-list-start : (t : ℕ) → def-else-lts.Need-part-term-list-start (def-else-claims t) (def-else-at t) def-else.Post
-def-else-part-term-list-start t c =
-    let a = c .before .before .before .before .before .before .before .args in
-    let s = a .part .now in
-    let g = framed (a .set .now) (a .val .now) in
-    let acc = c .before .before .before .before .before .before .before .pre .1 .2 in
-    let w = spanned (c .before .before .pkg .result) in
-    let ew = c .before .before .pkg .ensures in
-    let pk = package-in 0 (a .at + 1) s (w .raw) (w .used) ew (omega (arith, c .before .before .before .before .before .if1 .left)) in
-    omega (arith, pk, c .before .before .before .before .before .before .before .pre .1 .1)
-
-def-else-part-term-list-end : (t : ℕ) → def-else-lts.Need-part-term-list-end (def-else-claims t) (def-else-at t) def-else.Post
-def-else-part-term-list-end t c =
-    let a = c .before .before .before .before .before .before .before .args in
-    let s = a .part .now in
-    let g = framed (a .set .now) (a .val .now) in
-    let acc = c .before .before .before .before .before .before .before .pre .1 .2 in
-    let w = spanned (c .before .before .pkg .result) in
-    let ew = c .before .before .pkg .ensures in
-    let pk = package-in 0 (a .at + 1) s (w .raw) (w .used) ew (omega (arith, c .before .before .before .before .before .if1 .left)) in
-    omega (arith, pk, c .before .before .before .before .before .before .before .pre .1 .1)
+    (omega (arith, c .before .before .if1 .left), c .before .before .before .before .pre .1 .1, runs.else-package (a .left) (a .at) (a .part .now) (c .before .before .if1 .left) (c .if2 .left) (c .before .before .before .before .pre .1 .2))
 
 def-else-term-list-requires : (t : ℕ) → def-else-lts.Need-term-list-requires (def-else-claims t) (def-else-at t) def-else.Post
 def-else-term-list-requires t c κs =
-    let c-pre = c .before .before .before .before .before .before .before .before .before .before .pre in
-    let c-if1 = c .before .before .before .before .before .before .before .before .if1 in
-    let c-if2 = c .before .before .before .before .before .before .if2 in
-    let c-pkg = c .before .before .before .before .before .pkg in
     let a = c .before .before .before .before .before .before .before .before .before .before .args in
-    let s = a .part .now in
-    let g = framed (a .set .now) (a .val .now) in
-    let acc = c-pre .1 .2 in
-    let w = spanned (c-pkg .result) in
-    let ew = c-pkg .ensures in
-    let pk = package-in 0 (a .at + 1) s (w .raw) (w .used) ew (omega (arith, c-if1 .left)) in
-    let b = a .at + 1 + w .used in
-    (omega (arith, c-pre .0), (omega (arith, pk, c-pre .1 .1, length-take (a .at + 1 + w .raw - b) (drop b s), length-drop b s), runs.else-acc (a .left) (a .at) s (c-if1 .left) (c-if2 .left) acc w ew))
+    let acc = runs.else-acc (a .left) (a .at) (a .part .now) (c .before .before .before .before .before .before .before .before .if1 .left) (c .before .before .before .before .before .before .if2 .left) (c .before .before .before .before .before .before .before .before .before .before .pre .1 .2) (spanned (c .before .before .before .before .before .pkg .result)) (c .before .before .before .before .before .pkg .ensures .is) in
+    (omega (arith, c .before .before .before .before .before .before .before .before .before .before .pre .0), (runs.part-short (a .part .now) (a .at + 1 + c .before .before .before .before .before .pkg .result .raw - (a .at + 1 + c .before .before .before .before .before .pkg .result .used)) (a .at + 1 + c .before .before .before .before .before .pkg .result .used) (c .before .before .before .before .before .before .before .before .before .before .pre .1 .1), acc))
 
 def-else-returns-3 : (t : ℕ) → def-else-lts.Need-returns-3 (def-else-claims t) (def-else-at t) def-else.Post
 def-else-returns-3 t c =
-    let c-pre = c .before .before .before .before .before .before .before .before .before .before .before .pre in
-    let c-if1 = c .before .before .before .before .before .before .before .before .before .if1 in
-    let c-if2 = c .before .before .before .before .before .before .before .if2 in
-    let c-pkg = c .before .before .before .before .before .before .pkg in
     let a = c .before .before .before .before .before .before .before .before .before .before .before .args in
-    let s = a .part .now in
-    let g = framed (a .set .now) (a .val .now) in
-    let acc = c-pre .1 .2 in
-    let w = spanned (c-pkg .result) in
-    let ew = c-pkg .ensures in
-    let pk = package-in 0 (a .at + 1) s (w .raw) (w .used) ew (omega (arith, c-if1 .left)) in
-    runs.else-ran (a .left) (a .at) s (c-if1 .left) (c-if2 .left) acc w ew g (a .units) _ (c .term-list .ensures)
+    runs.else-ran (a .left) (a .at) (a .part .now) (c .before .before .before .before .before .before .before .before .before .if1 .left) (c .before .before .before .before .before .before .before .if2 .left) (c .before .before .before .before .before .before .before .before .before .before .before .pre .1 .2) (spanned (c .before .before .before .before .before .before .pkg .result)) (c .before .before .before .before .before .before .pkg .ensures .is) (bits (a .w)) _ (a .units) _
+    (c .term-list .ensures)
 
 def-if-else-pkg-requires : (t : ℕ) → def-if-else-lts.Need-pkg-requires (def-if-else-claims t) (def-if-else-at t) def-if-else.Post
 def-if-else-pkg-requires t c κs =
     let a = c .before .args in
-    let s = a .part .now in
-    let g = framed (a .set .now) (a .val .now) in
-    let acc = c .before .pre .1 .2 in
-    (c .before .pre .1 .0, c .before .pre .1 .1, runs.head-package (a .left) (a .at) s (runs.if-head (a .left) (a .at) s acc))
-
-def-if-else-add-end : (t : ℕ) → def-if-else-lts.Need-add-end (def-if-else-claims t) (def-if-else-at t) def-if-else.Post
-def-if-else-add-end t c =
-    let a = c .before .before .before .args in
-    let s = a .part .now in
-    let g = framed (a .set .now) (a .val .now) in
-    let acc = c .before .before .before .pre .1 .2 in
-    let w = spanned (c .before .pkg .result) in
-    let ew = c .before .pkg .ensures in
-    let pk = package-in 0 (a .at) s (w .raw) (w .used) ew (c .before .before .before .pre .1 .0) in
-    omega (arith, pk, c .before .before .before .pre .1 .1)
-
-def-if-else-add-eval : (t : ℕ) → def-if-else-lts.Need-add-eval (def-if-else-claims t) (def-if-else-at t) def-if-else.Post
-def-if-else-add-eval t c =
-    let a = c .before .before .before .before .args in
-    let s = a .part .now in
-    let g = framed (a .set .now) (a .val .now) in
-    let acc = c .before .before .before .before .pre .1 .2 in
-    let w = spanned (c .before .before .pkg .result) in
-    let ew = c .before .before .pkg .ensures in
-    let pk = package-in 0 (a .at) s (w .raw) (w .used) ew (c .before .before .before .before .pre .1 .0) in
-    omega (arith, pk, c .before .before .before .before .pre .1 .1)
+    (c .before .pre .1 .0, c .before .pre .1 .1, runs.head-package (a .left) (a .at) (a .part .now) (runs.if-head (a .left) (a .at) (a .part .now) (c .before .pre .1 .2)))
 
 def-if-else-eval-requires : (t : ℕ) → def-if-else-lts.Need-eval-requires (def-if-else-claims t) (def-if-else-at t) def-if-else.Post
 def-if-else-eval-requires t c κs =
     let a = c .before .before .before .before .before .before .args in
-    let s = a .part .now in
-    let g = framed (a .set .now) (a .val .now) in
-    let acc = c .before .before .before .before .before .before .pre .1 .2 in
-    let w = spanned (c .before .before .before .before .pkg .result) in
-    let ew = c .before .before .before .before .pkg .ensures in
-    let pk = package-in 0 (a .at) s (w .raw) (w .used) ew (c .before .before .before .before .before .before .pre .1 .0) in
-    (c .before .before .before .before .before .before .pre .1 .1, runs.head-term-acc (a .left) (a .at) s (runs.if-head (a .left) (a .at) s acc) w ew)
+    evals.term-ready depthLimit _ (a .part .now) (c .before .before .before .before .before .before .pre .1 .1)
+    (runs.head-term-acc (a .left) (a .at) (a .part .now) (runs.if-head (a .left) (a .at) (a .part .now) (c .before .before .before .before .before .before .pre .1 .2)) (spanned (c .before .before .before .before .pkg .result)) (c .before .before .before .before .pkg .ensures .is))
+
+-- the body of a predicate that was evaluated, and what stands behind the package
+module _ (t : ℕ) (k : def-if-else-lts.After-known-told2 (def-if-else-claims t) (def-if-else-at t) def-if-else.Post) where
+  if-body : (let a = k .before .before .before .before .before .before .before .before .before .before .args in let e = a .at + k .before .before .before .before .before .before .before .before .pkg .result .raw in let m = k .before .v2 .given .0 .1 .0 in let b = take (e - m) (drop m (a .part .now)) in
+      (m ≤ e) × (length b ≤ blockLimit) × Accepts (readList (a .left) 0 b))
+  if-body =
+      let a = k .before .before .before .before .before .before .before .before .before .before .args in
+      let z = k .before .v2 .given in
+      let b = runs.if-body (a .left) (a .at) (a .part .now) (k .before .before .before .before .before .before .before .before .before .before .pre .1 .2) (spanned (k .before .before .before .before .before .before .before .before .pkg .result)) (k .before .before .before .before .before .before .before .before .pkg .ensures .is) (bits (a .w)) _ _ (a .units) _ (k .before .before .before .eval .ensures) (z .0 .0) (z .0 .1 .0) (z .1) in
+      (b .0, runs.part-short (a .part .now) (a .at + k .before .before .before .before .before .before .before .before .pkg .result .raw - z .0 .1 .0) (z .0 .1 .0) (k .before .before .before .before .before .before .before .before .before .before .pre .1 .1), b .1)
+
+  if-rest : (let a = k .before .before .before .before .before .before .before .before .before .before .args in let e = a .at + k .before .before .before .before .before .before .before .before .pkg .result .raw in (e ≤ length (a .part .now)) × (length (a .part .now) ≤ blockLimit) × Accepts (readElse (readList (a .left)) 0 (drop e (a .part .now))))
+  if-rest =
+      let a = k .before .before .before .before .before .before .before .before .before .before .args in
+      (k .before .before .before .before .before .before .before .before .pkg .ensures .fits, k .before .before .before .before .before .before .before .before .before .before .pre .1 .1, runs.if-else-acc (a .left) (a .at) (a .part .now) (k .before .before .before .before .before .before .before .before .before .before .pre .1 .2) (spanned (k .before .before .before .before .before .before .before .before .pkg .result)) (k .before .before .before .before .before .before .before .before .pkg .ensures .is))
 
 def-if-else-else-end-requires : (t : ℕ) → def-if-else-lts.Need-else-end-requires (def-if-else-claims t) (def-if-else-at t) def-if-else.Post
 def-if-else-else-end-requires t c κs =
-    let a = c .before .before .before .before .before .before .before .before .before .before .args in
-    let s = a .part .now in
-    let g = framed (a .set .now) (a .val .now) in
-    let acc = c .before .before .before .before .before .before .before .before .before .before .pre .1 .2 in
-    let w = spanned (c .before .before .before .before .before .before .before .before .pkg .result) in
-    let ew = c .before .before .before .before .before .before .before .before .pkg .ensures in
-    let pk = package-in 0 (a .at) s (w .raw) (w .used) ew (c .before .before .before .before .before .before .before .before .before .before .pre .1 .0) in
-    (omega (arith, pk), c .before .before .before .before .before .before .before .before .before .before .pre .1 .1, runs.if-else-acc (a .left) (a .at) s acc w ew)
+    if-rest t (c)
 
 def-if-else-def-else-requires : (t : ℕ) → def-if-else-lts.Need-def-else-requires (def-if-else-claims t) (def-if-else-at t) def-if-else.Post
 def-if-else-def-else-requires t c κs =
-    let c-pre = c .before .before .before .before .before .before .before .before .before .before .before .before .before .before .pre in
-    let c-pkg = c .before .before .before .before .before .before .before .before .before .before .before .before .pkg in
-    let a = c .before .before .before .before .before .before .before .before .before .before .before .before .before .before .args in
-    let s = a .part .now in
-    let g = framed (a .set .now) (a .val .now) in
-    let acc = c-pre .1 .2 in
-    let w = spanned (c-pkg .result) in
-    let ew = c-pkg .ensures in
-    let pk = package-in 0 (a .at) s (w .raw) (w .used) ew (c-pre .1 .0) in
-    (omega (arith, c-pre .0), (omega (arith, pk), c-pre .1 .1, runs.if-else-acc (a .left) (a .at) s acc w ew))
+    (omega (arith, c .before .before .before .before .before .before .before .before .before .before .before .before .before .before .pre .0), if-rest t (c .before .before .before .before))
 
 def-if-else-sub-term-list : (t : ℕ) → def-if-else-lts.Need-sub-term-list (def-if-else-claims t) (def-if-else-at t) def-if-else.Post
 def-if-else-sub-term-list t c =
-    let a = c .before .before .before .before .before .before .before .before .before .before .before .before .args in
-    let s = a .part .now in
-    let g = framed (a .set .now) (a .val .now) in
-    let acc = c .before .before .before .before .before .before .before .before .before .before .before .before .pre .1 .2 in
-    let w = spanned (c .before .before .before .before .before .before .before .before .before .before .pkg .result) in
-    let ew = c .before .before .before .before .before .before .before .before .before .before .pkg .ensures in
-    let pk = package-in 0 (a .at) s (w .raw) (w .used) ew (c .before .before .before .before .before .before .before .before .before .before .before .before .pre .1 .0) in
-    let z = c .before .before .before .v2 .given in
-    let bd = runs.if-body (a .left) (a .at) s acc w ew g (a .units) _ (c .before .before .before .before .before .eval .ensures) (z .0 .0) (z .0 .1 .0) (z .1) in
-    omega (arith, pk, bd .0)
+    omega (arith, if-body t (c .before .before) .0)
 
 def-if-else-part-term-list-start : (t : ℕ) → def-if-else-lts.Need-part-term-list-start (def-if-else-claims t) (def-if-else-at t) def-if-else.Post
 def-if-else-part-term-list-start t c =
-    let a = c .before .before .before .before .before .before .before .before .before .before .before .before .args in
-    let s = a .part .now in
-    let g = framed (a .set .now) (a .val .now) in
-    let acc = c .before .before .before .before .before .before .before .before .before .before .before .before .pre .1 .2 in
-    let w = spanned (c .before .before .before .before .before .before .before .before .before .before .pkg .result) in
-    let ew = c .before .before .before .before .before .before .before .before .before .before .pkg .ensures in
-    let pk = package-in 0 (a .at) s (w .raw) (w .used) ew (c .before .before .before .before .before .before .before .before .before .before .before .before .pre .1 .0) in
-    let z = c .before .before .before .v2 .given in
-    let bd = runs.if-body (a .left) (a .at) s acc w ew g (a .units) _ (c .before .before .before .before .before .eval .ensures) (z .0 .0) (z .0 .1 .0) (z .1) in
-    omega (arith, pk, bd .0)
+    omega (arith, if-body t (c .before .before) .0)
 
 def-if-else-part-term-list-end : (t : ℕ) → def-if-else-lts.Need-part-term-list-end (def-if-else-claims t) (def-if-else-at t) def-if-else.Post
 def-if-else-part-term-list-end t c =
-    let a = c .before .before .before .before .before .before .before .before .before .before .before .before .args in
-    let s = a .part .now in
-    let g = framed (a .set .now) (a .val .now) in
-    let acc = c .before .before .before .before .before .before .before .before .before .before .before .before .pre .1 .2 in
-    let w = spanned (c .before .before .before .before .before .before .before .before .before .before .pkg .result) in
-    let ew = c .before .before .before .before .before .before .before .before .before .before .pkg .ensures in
-    let pk = package-in 0 (a .at) s (w .raw) (w .used) ew (c .before .before .before .before .before .before .before .before .before .before .before .before .pre .1 .0) in
-    let z = c .before .before .before .v2 .given in
-    let bd = runs.if-body (a .left) (a .at) s acc w ew g (a .units) _ (c .before .before .before .before .before .eval .ensures) (z .0 .0) (z .0 .1 .0) (z .1) in
-    omega (arith, pk, bd .0)
+    omega (arith, if-body t (c .before .before) .0, c .before .before .before .before .before .before .before .before .before .before .pkg .ensures .fits)
 
 def-if-else-term-list-requires : (t : ℕ) → def-if-else-lts.Need-term-list-requires (def-if-else-claims t) (def-if-else-at t) def-if-else.Post
 def-if-else-term-list-requires t c κs =
-    let c-pre = c .before .before .before .before .before .before .before .before .before .before .before .before .before .before .before .pre in
-    let c-pkg = c .before .before .before .before .before .before .before .before .before .before .before .before .before .pkg in
-    let c-eval = c .before .before .before .before .before .before .before .before .eval in
-    let c-v2 = c .before .before .before .before .before .before .v2 in
-    let a = c .before .before .before .before .before .before .before .before .before .before .before .before .before .before .before .args in
-    let s = a .part .now in
-    let g = framed (a .set .now) (a .val .now) in
-    let acc = c-pre .1 .2 in
-    let w = spanned (c-pkg .result) in
-    let ew = c-pkg .ensures in
-    let pk = package-in 0 (a .at) s (w .raw) (w .used) ew (c-pre .1 .0) in
-    let z = c-v2 .given in
-    let bd = runs.if-body (a .left) (a .at) s acc w ew g (a .units) _ (c-eval .ensures) (z .0 .0) (z .0 .1 .0) (z .1) in
-    (omega (arith, c-pre .0), (omega (arith, pk, c-pre .1 .1, length-take (a .at + w .raw - z .0 .1 .0) (drop (z .0 .1 .0) s), length-drop (z .0 .1 .0) s), bd .1))
+    let b = if-body t (c .before .before .before .before .before) in (omega (arith, c .before .before .before .before .before .before .before .before .before .before .before .before .before .before .before .pre .0), (b .1, b .2))
 
 def-if-else-returns : (t : ℕ) → def-if-else-lts.Need-returns (def-if-else-claims t) (def-if-else-at t) def-if-else.Post
 def-if-else-returns t c =
     let a = c .before .before .before .before .before .before .before .before .before .before .args in
-    let s = a .part .now in
-    let g = framed (a .set .now) (a .val .now) in
-    let acc = c .before .before .before .before .before .before .before .before .before .before .pre .1 .2 in
-    let w = spanned (c .before .before .before .before .before .before .before .before .pkg .result) in
-    let ew = c .before .before .before .before .before .before .before .before .pkg .ensures in
-    let pk = package-in 0 (a .at) s (w .raw) (w .used) ew (c .before .before .before .before .before .before .before .before .before .before .pre .1 .0) in
-    runs.if-missing (a .left) (a .at) s acc w ew g (a .units) _ (c .before .before .before .eval .ensures) _ (c .before .v .given .1)
+    runs.if-missing (a .left) (a .at) (a .part .now) (c .before .before .before .before .before .before .before .before .before .before .pre .1 .2) (spanned (c .before .before .before .before .before .before .before .before .pkg .result)) (c .before .before .before .before .before .before .before .before .pkg .ensures .is) (bits (a .w)) _ _ (a .units) _ (c .before .before .before .eval .ensures) _ (c .before .v .given .1)
 
 def-if-else-returns-2 : (t : ℕ) → def-if-else-lts.Need-returns-2 (def-if-else-claims t) (def-if-else-at t) def-if-else.Post
 def-if-else-returns-2 t c =
-    let c-pre = c .before .before .before .before .before .before .before .before .before .before .before .before .before .before .before .before .pre in
-    let c-pkg = c .before .before .before .before .before .before .before .before .before .before .before .before .before .before .pkg in
-    let c-eval = c .before .before .before .before .before .before .before .before .before .eval in
-    let c-v2 = c .before .before .before .before .before .before .before .v2 in
-    let c-else-end = c .before .before .before .before .before .else-end in
-    let c-def-else = c .before .def-else in
     let a = c .before .before .before .before .before .before .before .before .before .before .before .before .before .before .before .before .args in
-    let s = a .part .now in
-    let g = framed (a .set .now) (a .val .now) in
-    let acc = c-pre .1 .2 in
-    let w = spanned (c-pkg .result) in
-    let ew = c-pkg .ensures in
-    let pk = package-in 0 (a .at) s (w .raw) (w .used) ew (c-pre .1 .0) in
-    let z = c-v2 .given in
-    runs.if-zero (a .left) (a .at) s acc w ew g (a .units) _ (c-eval .ensures) (z .0 .0) (z .0 .1 .0) (z .1) (c-else-end .result) (c-else-end .ensures) _
-    _ (runs.finished-at _ (c-else-end .result) (c-def-else .result) (c .finish .result) (c .finish .ensures))
-    (c .before .before .before .before .if1 .taken) (c-def-else .ensures)
+    let z = c .before .before .before .before .before .before .before .v2 .given in
+    let e = c .before .before .before .before .before .else-end in
+    let r = c .before .def-else in
+    runs.if-zero (a .left) (a .at) (a .part .now) (c .before .before .before .before .before .before .before .before .before .before .before .before .before .before .before .before .pre .1 .2) (spanned (c .before .before .before .before .before .before .before .before .before .before .before .before .before .before .pkg .result)) (c .before .before .before .before .before .before .before .before .before .before .before .before .before .before .pkg .ensures .is) (bits (a .w)) _ _ (a .units) _ (c .before .before .before .before .before .before .before .before .before .eval .ensures)
+    (z .0 .0) (z .0 .1 .0) (z .1) (e .result) (e .ensures) _ _ (runs.finished-at _ (e .result) (r .result) (c .finish .result) (c .finish .ensures)) (c .before .before .before .before .if1 .taken) (r .ensures)
 
 def-if-else-returns-3 : (t : ℕ) → def-if-else-lts.Need-returns-3 (def-if-else-claims t) (def-if-else-at t) def-if-else.Post
 def-if-else-returns-3 t c =
-    let c-pre = c .before .before .before .before .before .before .before .before .before .before .before .before .before .before .before .before .before .pre in
-    let c-pkg = c .before .before .before .before .before .before .before .before .before .before .before .before .before .before .before .pkg in
-    let c-eval = c .before .before .before .before .before .before .before .before .before .before .eval in
-    let c-v2 = c .before .before .before .before .before .before .before .before .v2 in
-    let c-else-end = c .before .before .before .before .before .before .else-end in
-    let c-if1 = c .before .before .before .before .before .if1 in
-    let c-term-list = c .before .term-list in
     let a = c .before .before .before .before .before .before .before .before .before .before .before .before .before .before .before .before .before .args in
-    let s = a .part .now in
-    let g = framed (a .set .now) (a .val .now) in
-    let acc = c-pre .1 .2 in
-    let w = spanned (c-pkg .result) in
-    let ew = c-pkg .ensures in
-    let pk = package-in 0 (a .at) s (w .raw) (w .used) ew (c-pre .1 .0) in
-    let z = c-v2 .given in
-    runs.if-true (a .left) (a .at) s acc w ew g (a .units) _ (c-eval .ensures) (z .0 .0) (z .0 .1 .0) (z .1) (c-else-end .result) (c-else-end .ensures) _
-    _ (runs.finished-at _ (c-else-end .result) (c-term-list .result) (c .finish2 .result) (c .finish2 .ensures)) (c-if1 .left) (c-term-list .ensures)
+    let z = c .before .before .before .before .before .before .before .before .v2 .given in
+    let e = c .before .before .before .before .before .before .else-end in
+    let r = c .before .term-list in
+    runs.if-true (a .left) (a .at) (a .part .now) (c .before .before .before .before .before .before .before .before .before .before .before .before .before .before .before .before .before .pre .1 .2) (spanned (c .before .before .before .before .before .before .before .before .before .before .before .before .before .before .before .pkg .result)) (c .before .before .before .before .before .before .before .before .before .before .before .before .before .before .before .pkg .ensures .is) (bits (a .w)) _ _ (a .units) _ (c .before .before .before .before .before .before .before .before .before .before .eval .ensures)
+    (z .0 .0) (z .0 .1 .0) (z .1) (e .result) (e .ensures) _ _ (runs.finished-at _ (e .result) (r .result) (c .finish2 .result) (c .finish2 .ensures)) (c .before .before .before .before .before .if1 .left) (r .ensures)
 
 def-while-pkg-requires : (t : ℕ) → def-while-lts.Need-pkg-requires (def-while-claims t) (def-while-at t) def-while.Post
 def-while-pkg-requires t c κs =
-    let a = c .before .args in
-    let s = a .part .now in
-    let g = framed (a .set .now) (a .val .now) in
-    let acc = c .before .pre .1 .2 in
-    (c .before .pre .1 .0, c .before .pre .1 .1, runs.head-package (a .left) (a .at) s acc)
-
-def-while-add-end : (t : ℕ) → def-while-lts.Need-add-end (def-while-claims t) (def-while-at t) def-while.Post
-def-while-add-end t c =
-    let a = c .before .before .before .args in
-    let s = a .part .now in
-    let g = framed (a .set .now) (a .val .now) in
-    let acc = c .before .before .before .pre .1 .2 in
-    let w = spanned (c .before .pkg .result) in
-    let ew = c .before .pkg .ensures in
-    let pk = package-in 0 (a .at) s (w .raw) (w .used) ew (c .before .before .before .pre .1 .0) in
-    omega (arith, pk, c .before .before .before .pre .1 .1)
-
-def-while-add-turns : (t : ℕ) → def-while-lts.Need-add-turns (def-while-claims t) (def-while-at t) def-while.Post
-def-while-add-turns t c =
-    let a = c .before .before .before .before .args in
-    let s = a .part .now in
-    let g = framed (a .set .now) (a .val .now) in
-    let acc = c .before .before .before .before .pre .1 .2 in
-    let w = spanned (c .before .before .pkg .result) in
-    let ew = c .before .before .pkg .ensures in
-    let pk = package-in 0 (a .at) s (w .raw) (w .used) ew (c .before .before .before .before .pre .1 .0) in
-    omega (arith, pk, c .before .before .before .before .pre .1 .1)
+    let a = c .before .args in (c .before .pre .1 .0, c .before .pre .1 .1, runs.head-package (a .left) (a .at) (a .part .now) (c .before .pre .1 .2))
 
 def-while-turns-requires : (t : ℕ) → def-while-lts.Need-turns-requires (def-while-claims t) (def-while-at t) def-while.Post
 def-while-turns-requires t c κs =
     let a = c .before .before .before .before .before .before .args in
-    let s = a .part .now in
-    let g = framed (a .set .now) (a .val .now) in
-    let acc = c .before .before .before .before .before .before .pre .1 .2 in
-    let w = spanned (c .before .before .before .before .pkg .result) in
-    let ew = c .before .before .before .before .pkg .ensures in
-    let pk = package-in 0 (a .at) s (w .raw) (w .used) ew (c .before .before .before .before .before .before .pre .1 .0) in
-    (omega (arith, c .before .before .before .before .before .before .pre .0), (omega (arith, pk), c .before .before .before .before .before .before .pre .1 .1, runs.turns-ok (a .left) (a .at) s acc w ew))
+    let ok = runs.turns-ok (a .left) (a .at) (a .part .now) (c .before .before .before .before .before .before .pre .1 .2) (spanned (c .before .before .before .before .pkg .result)) (c .before .before .before .before .pkg .ensures .is) in
+    (omega (arith, c .before .before .before .before .before .before .pre .0), (c .before .before .before .before .pkg .ensures .fits, c .before .before .before .before .before .before .pre .1 .1, ok))
 
 def-while-returns : (t : ℕ) → def-while-lts.Need-returns (def-while-claims t) (def-while-at t) def-while.Post
 def-while-returns t c =
     let a = c .before .before .before .before .before .before .before .before .args in
-    let s = a .part .now in
-    let g = framed (a .set .now) (a .val .now) in
-    let acc = c .before .before .before .before .before .before .before .before .pre .1 .2 in
-    let w = spanned (c .before .before .before .before .before .before .pkg .result) in
-    let ew = c .before .before .before .before .before .before .pkg .ensures in
-    let pk = package-in 0 (a .at) s (w .raw) (w .used) ew (c .before .before .before .before .before .before .before .before .pre .1 .0) in
-    runs.while-ran (a .left) (a .at) s acc w ew g (a .units) _ _ (c .before .turns .ensures) (runs.finished-at _ (a .at + w .raw) (c .before .turns .result) (c .finish .result) (c .finish .ensures))
+    let r = c .before .turns in
+    runs.while-ran (a .left) (a .at) (a .part .now) (c .before .before .before .before .before .before .before .before .pre .1 .2) (spanned (c .before .before .before .before .before .before .pkg .result)) (c .before .before .before .before .before .before .pkg .ensures .is) (bits (a .w)) _ (a .units) _ _ (r .ensures)
+    (runs.finished-at _ _ (r .result) (c .finish .result) (c .finish .ensures))
 
 statement-opcode-returns : (t : ℕ) → statement-opcode-lts.Need-returns (statement-opcode-claims t) (statement-opcode-at t) statement-opcode.Post
 statement-opcode-returns t c =
     let a = c .before .before .args in
-    let s = a .part .now in
-    let g = framed (a .set .now) (a .val .now) in
-    let lt = c .before .before .pre .1 .0 in
-    let acc = c .before .before .pre .1 .2 in
-    runs.no-unit (a .left) (a .at) s lt acc g (a .units) (c .if1 .taken)
+    runs.no-unit (a .left) (a .at) (a .part .now) (c .before .before .pre .1 .inside) (c .before .before .pre .1 .reads) (bits (a .w)) (framed (a .set .now) (a .val .now)) (a .units) (c .if1 .taken)
 
-statement-opcode-shared-slice-read-stmt-op :
-    (t : ℕ) → statement-opcode-lts.Need-shared-slice-read-stmt-op (statement-opcode-claims t) (statement-opcode-at t) statement-opcode.Post
-statement-opcode-shared-slice-read-stmt-op t c = search needs
+-- an arm of the match on what the byte starts: what was read so, and what running it answers
+module _ (t : ℕ) (k : statement-opcode-lts.After-stmt-op (statement-opcode-claims t) (statement-opcode-at t) statement-opcode.Post) where
+  statement-acc : (o : StmtOp) → k .stmt-op .result ≡ o →
+      (let a = k .before .before .before .before .args in Accepts (stmtBy (readList (a .left - 1)) (getD (a .part .now) (a .at) 0) 0 (drop (a .at + 1) (a .part .now)) o))
+  statement-acc o q = let a = k .before .before .before .before .args in runs.op-acc (a .left) (a .at) (a .part .now) (k .before .before .before .before .pre .1 .inside) (k .before .before .before .before .pre .1 .reads) (k .stmt-op .result) o (k .stmt-op .ensures) q
+
+  statement-arm : (o : StmtOp) (x : Ran Frame Way) → k .stmt-op .result ≡ o →
+      (let a = k .before .before .before .before .args in let f = framed (a .set .now) (a .val .now) in
+      x ≡ stepDo (bits (a .w)) (a .at) (stmtBy (readList (a .left - 1)) (getD (a .part .now) (a .at) 0) 0 (drop (a .at + 1) (a .part .now)) o) f (a .units - 1) →
+      x ≡ stepOf (bits (a .w)) (a .at) (readStmt (a .left) 0 (drop (a .at) (a .part .now))) f (a .units))
+  statement-arm o x q h =
+      let a = k .before .before .before .before .args in
+      runs.run-arm (a .left) (a .at) (a .part .now) (k .before .before .before .before .pre .1 .inside) (k .before .before .before .before .pre .1 .reads) (k .stmt-op .result) o (k .stmt-op .ensures) q
+      (bits (a .w)) (framed (a .set .now) (a .val .now)) (a .units) x (k .before .before .if1 .left) h
+
+  return-acc : k .stmt-op .result ≡ Return → (let a = k .before .before .before .before .args in Accepts (readTerm depthLimit 0 (drop (a .at + 1) (a .part .now))))
+  return-acc q = let a = k .before .before .before .before .args in runs.ret-acc (bits (a .w)) (a .at) _ (framed (a .set .now) (a .val .now)) 0 (statement-acc Return q)
+
+  if-acc : k .stmt-op .result ≡ If → (let a = k .before .before .before .before .args in Accepts (readIf (readList (a .left - 1)) 0 (drop (a .at + 1) (a .part .now))))
+  if-acc q = let a = k .before .before .before .before .args in runs.if-acc (bits (a .w)) (a .at) _ (framed (a .set .now) (a .val .now)) 0 (a .left - 1) (statement-acc If q)
+
+  while-acc : k .stmt-op .result ≡ While → (let a = k .before .before .before .before .args in Accepts (readHead (readList (a .left - 1)) 0 (drop (a .at + 1) (a .part .now))))
+  while-acc q = let a = k .before .before .before .before .args in runs.while-acc (bits (a .w)) (a .at) _ (framed (a .set .now) (a .val .now)) 0 (a .left - 1) (statement-acc While q)
 
 statement-opcode-eval-requires : (t : ℕ) → statement-opcode-lts.Need-eval-requires (statement-opcode-claims t) (statement-opcode-at t) statement-opcode.Post
 statement-opcode-eval-requires t c κs =
-    let a = c .before .before .before .before .before .before .before .before .args in
-    let s = a .part .now in
-    let g = framed (a .set .now) (a .val .now) in
-    let lt = c .before .before .before .before .before .before .before .before .pre .1 .0 in
-    let acc = c .before .before .before .before .before .before .before .before .pre .1 .2 in
-    let ac = runs.op-acc (a .left) (a .at) s lt acc (c .before .before .before .before .stmt-op .result) _ (c .before .before .before .before .stmt-op .ensures) (c .before .before .enum-told .given .1) in
-    let d = drop (a .at + 1) s in
-    (c .before .before .before .before .before .before .before .before .pre .1 .1, runs.ret-acc (a .at) d g (a .units) (stepAt 0 (ended g 0 (gives finished))) ac)
-
-statement-opcode-sub-def-if-else : (t : ℕ) → statement-opcode-lts.Need-sub-def-if-else (statement-opcode-claims t) (statement-opcode-at t) statement-opcode.Post
-statement-opcode-sub-def-if-else t c =
-    let a = c .before .before .before .before .before .before .args in
-    let s = a .part .now in
-    let g = framed (a .set .now) (a .val .now) in
-    let lt = c .before .before .before .before .before .before .pre .1 .0 in
-    let acc = c .before .before .before .before .before .before .pre .1 .2 in
-    omega (arith, runs.stmt-left (a .left) (a .at) s lt acc)
+    evals.term-ready depthLimit _ (c .before .before .before .before .before .before .before .before .args .part .now) (c .before .before .before .before .before .before .before .before .pre .1 .short) (return-acc t (c .before .before .before .before) (c .before .before .enum-told .given .1))
 
 statement-opcode-def-if-else-requires : (t : ℕ) → statement-opcode-lts.Need-def-if-else-requires (statement-opcode-claims t) (statement-opcode-at t) statement-opcode.Post
 statement-opcode-def-if-else-requires t c κs =
-    let c-pre = c .before .before .before .before .before .before .before .before .pre in
-    let c-stmt-op = c .before .before .before .before .stmt-op in
-    let a = c .before .before .before .before .before .before .before .before .args in
-    let s = a .part .now in
-    let g = framed (a .set .now) (a .val .now) in
-    let lt = c-pre .1 .0 in
-    let acc = c-pre .1 .2 in
-    let ac = runs.op-acc (a .left) (a .at) s lt acc (c-stmt-op .result) _ (c-stmt-op .ensures) (c .before .before .enum-told2 .given .1) in
-    let d = drop (a .at + 1) s in
-    let some = runs.stmt-left (a .left) (a .at) s lt acc in
-    (omega (arith, some, c-pre .0), (omega (arith, lt), c-pre .1 .1, runs.if-acc (a .at) d g (a .units) (stepAt 0 (ended g 0 (gives finished))) (a .left - 1) ac))
-
-statement-opcode-sub-def-while : (t : ℕ) → statement-opcode-lts.Need-sub-def-while (statement-opcode-claims t) (statement-opcode-at t) statement-opcode.Post
-statement-opcode-sub-def-while t c =
-    let a = c .before .before .before .before .before .before .args in
-    let s = a .part .now in
-    let g = framed (a .set .now) (a .val .now) in
-    let lt = c .before .before .before .before .before .before .pre .1 .0 in
-    let acc = c .before .before .before .before .before .before .pre .1 .2 in
-    omega (arith, runs.stmt-left (a .left) (a .at) s lt acc)
+    (omega (arith, c .before .before .before .before .before .before .before .before .pre .0), (omega arith, c .before .before .before .before .before .before .before .before .pre .1 .short, if-acc t (c .before .before .before .before) (c .before .before .enum-told2 .given .1)))
 
 statement-opcode-def-while-requires : (t : ℕ) → statement-opcode-lts.Need-def-while-requires (statement-opcode-claims t) (statement-opcode-at t) statement-opcode.Post
 statement-opcode-def-while-requires t c κs =
-    let c-pre = c .before .before .before .before .before .before .before .before .pre in
-    let c-stmt-op = c .before .before .before .before .stmt-op in
-    let a = c .before .before .before .before .before .before .before .before .args in
-    let s = a .part .now in
-    let g = framed (a .set .now) (a .val .now) in
-    let lt = c-pre .1 .0 in
-    let acc = c-pre .1 .2 in
-    let ac = runs.op-acc (a .left) (a .at) s lt acc (c-stmt-op .result) _ (c-stmt-op .ensures) (c .before .before .enum-told3 .given .1) in
-    let d = drop (a .at + 1) s in
-    let some = runs.stmt-left (a .left) (a .at) s lt acc in
-    (omega (arith, some, c-pre .0), (omega (arith, lt), c-pre .1 .1, runs.while-acc (a .at) d g (a .units) (stepAt 0 (ended g 0 (gives finished))) (a .left - 1) ac))
+    (omega (arith, c .before .before .before .before .before .before .before .before .pre .0), (omega arith, c .before .before .before .before .before .before .before .before .pre .1 .short, while-acc t (c .before .before .before .before) (c .before .before .enum-told3 .given .1)))
 
 statement-opcode-term-arg-requires : (t : ℕ) → statement-opcode-lts.Need-term-arg-requires (statement-opcode-claims t) (statement-opcode-at t) statement-opcode.Post
 statement-opcode-term-arg-requires t c κs =
     let a = c .before .before .before .before .before .before .before .before .args in
-    let s = a .part .now in
-    let g = framed (a .set .now) (a .val .now) in
-    let lt = c .before .before .before .before .before .before .before .before .pre .1 .0 in
-    let acc = c .before .before .before .before .before .before .before .before .pre .1 .2 in
-    let ac = runs.op-acc (a .left) (a .at) s lt acc (c .before .before .before .before .stmt-op .result) _ (c .before .before .before .before .stmt-op .ensures) (c .before .before .enum-told4 .given .1) in
-    let d = drop (a .at + 1) s in
-    (c .before .before .before .before .before .before .before .before .pre .1 .1, runs.expr-acc (a .at) s lt ac)
+    evals.term-ready depthLimit _ (a .part .now) (c .before .before .before .before .before .before .before .before .pre .1 .short)
+    (runs.expr-acc (a .at) (a .part .now) (c .before .before .before .before .before .before .before .before .pre .1 .inside) (statement-acc t (c .before .before .before .before) _ (c .before .before .enum-told4 .given .1)))
 
 statement-opcode-returns-2 : (t : ℕ) → statement-opcode-lts.Need-returns-2 (statement-opcode-claims t) (statement-opcode-at t) statement-opcode.Post
 statement-opcode-returns-2 t c =
-    let c-pre = c .before .before .before .before .before .before .before .before .pre in
-    let c-if1 = c .before .before .before .before .before .before .if1 in
-    let c-stmt-op = c .before .before .before .before .stmt-op in
-    let c-op = c .before .before .op in
     let a = c .before .before .before .before .before .before .before .before .args in
-    let s = a .part .now in
-    let g = framed (a .set .now) (a .val .now) in
-    let lt = c-pre .1 .0 in
-    let acc = c-pre .1 .2 in
-    runs.run-arm (a .left) (a .at) s lt acc (c-stmt-op .result) _ (c-stmt-op .ensures) (c-op .given .1) g (a .units) _ (c-if1 .left)
-    (runs.plain-do (a .at) g (a .units - 1) (c-op .given .0 .0) (c .plain .result) (c .plain .ensures))
+    statement-arm t (c .before .before .before .before) _ _ (c .before .before .op .given .1) (runs.plain-do (bits (a .w)) (a .at) _ _ _ _ (c .plain .ensures))
 
 statement-opcode-returns-3 : (t : ℕ) → statement-opcode-lts.Need-returns-3 (statement-opcode-claims t) (statement-opcode-at t) statement-opcode.Post
 statement-opcode-returns-3 t c =
-    let c-pre = c .before .before .before .before .before .before .before .before .before .before .pre in
-    let c-if1 = c .before .before .before .before .before .before .before .before .if1 in
-    let c-stmt-op = c .before .before .before .before .before .before .stmt-op in
-    let c-enum-told = c .before .before .before .before .enum-told in
     let a = c .before .before .before .before .before .before .before .before .before .before .args in
-    let s = a .part .now in
-    let g = framed (a .set .now) (a .val .now) in
-    let lt = c-pre .1 .0 in
-    let acc = c-pre .1 .2 in
-    let ac = runs.op-acc (a .left) (a .at) s lt acc (c-stmt-op .result) _ (c-stmt-op .ensures) (c-enum-told .given .1) in
-    let d = drop (a .at + 1) s in
-    runs.run-arm (a .left) (a .at) s lt acc (c-stmt-op .result) _ (c-stmt-op .ensures) (c-enum-told .given .1) g (a .units) _ (c-if1 .left)
-    (runs.ret-do (a .at) d g (a .units - 1) _ _ (runs.ret-acc (a .at) d g (a .units) (stepAt 0 (ended g 0 (gives finished))) ac) (c .before .eval .ensures) (ap (stepF _) (c .def-return .ensures)))
+    let k = c .before .before .before .before .before .before in
+    statement-arm t k _ _ (c .before .before .before .before .enum-told .given .1)
+    (runs.ret-do (bits (a .w)) (a .at) _ _ _ _ (c .before .eval .result) _ (return-acc t k (c .before .before .before .before .enum-told .given .1)) (c .before .eval .ensures) (c .def-return .ensures))
 
 statement-opcode-returns-4 : (t : ℕ) → statement-opcode-lts.Need-returns-4 (statement-opcode-claims t) (statement-opcode-at t) statement-opcode.Post
 statement-opcode-returns-4 t c =
-    let c-pre = c .before .before .before .before .before .before .before .before .before .pre in
-    let c-if1 = c .before .before .before .before .before .before .before .if1 in
-    let c-stmt-op = c .before .before .before .before .before .stmt-op in
-    let c-enum-told2 = c .before .before .before .enum-told2 in
     let a = c .before .before .before .before .before .before .before .before .before .args in
-    let s = a .part .now in
-    let g = framed (a .set .now) (a .val .now) in
-    let lt = c-pre .1 .0 in
-    let acc = c-pre .1 .2 in
-    let ac = runs.op-acc (a .left) (a .at) s lt acc (c-stmt-op .result) _ (c-stmt-op .ensures) (c-enum-told2 .given .1) in
-    let d = drop (a .at + 1) s in
-    runs.run-arm (a .left) (a .at) s lt acc (c-stmt-op .result) _ (c-stmt-op .ensures) (c-enum-told2 .given .1) g (a .units) _ (c-if1 .left)
-    (runs.if-do (a .at) d g (a .units - 1) _ (a .left - 1) (runs.if-acc (a .at) d g (a .units) (stepAt 0 (ended g 0 (gives finished))) (a .left - 1) ac) (c .def-if-else .ensures))
+    let k = c .before .before .before .before .before in
+    statement-arm t k _ _ (c .before .before .before .enum-told2 .given .1) (runs.if-do (bits (a .w)) (a .at) _ _ _ (a .left - 1) _ (if-acc t k (c .before .before .before .enum-told2 .given .1)) (c .def-if-else .ensures))
 
 statement-opcode-returns-5 : (t : ℕ) → statement-opcode-lts.Need-returns-5 (statement-opcode-claims t) (statement-opcode-at t) statement-opcode.Post
 statement-opcode-returns-5 t c =
-    let c-pre = c .before .before .before .before .before .before .before .before .before .pre in
-    let c-if1 = c .before .before .before .before .before .before .before .if1 in
-    let c-stmt-op = c .before .before .before .before .before .stmt-op in
-    let c-enum-told3 = c .before .before .before .enum-told3 in
     let a = c .before .before .before .before .before .before .before .before .before .args in
-    let s = a .part .now in
-    let g = framed (a .set .now) (a .val .now) in
-    let lt = c-pre .1 .0 in
-    let acc = c-pre .1 .2 in
-    let ac = runs.op-acc (a .left) (a .at) s lt acc (c-stmt-op .result) _ (c-stmt-op .ensures) (c-enum-told3 .given .1) in
-    let d = drop (a .at + 1) s in
-    runs.run-arm (a .left) (a .at) s lt acc (c-stmt-op .result) _ (c-stmt-op .ensures) (c-enum-told3 .given .1) g (a .units) _ (c-if1 .left)
-    (runs.while-do (a .at) d g (a .units - 1) _ (a .left - 1) (runs.while-acc (a .at) d g (a .units) (stepAt 0 (ended g 0 (gives finished))) (a .left - 1) ac) (c .def-while .ensures))
+    let k = c .before .before .before .before .before in
+    statement-arm t k _ _ (c .before .before .before .enum-told3 .given .1) (runs.while-do (bits (a .w)) (a .at) _ _ _ (a .left - 1) _ (while-acc t k (c .before .before .before .enum-told3 .given .1)) (c .def-while .ensures))
 
 statement-opcode-returns-6 : (t : ℕ) → statement-opcode-lts.Need-returns-6 (statement-opcode-claims t) (statement-opcode-at t) statement-opcode.Post
 statement-opcode-returns-6 t c =
-    let c-pre = c .before .before .before .before .before .before .before .before .before .before .pre in
-    let c-if1 = c .before .before .before .before .before .before .before .before .if1 in
-    let c-stmt-op = c .before .before .before .before .before .before .stmt-op in
-    let c-enum-told4 = c .before .before .before .before .enum-told4 in
     let a = c .before .before .before .before .before .before .before .before .before .before .args in
-    let s = a .part .now in
-    let g = framed (a .set .now) (a .val .now) in
-    let lt = c-pre .1 .0 in
-    let acc = c-pre .1 .2 in
-    let ac = runs.op-acc (a .left) (a .at) s lt acc (c-stmt-op .result) _ (c-stmt-op .ensures) (c-enum-told4 .given .1) in
-    let d = drop (a .at + 1) s in
-    runs.run-arm (a .left) (a .at) s lt acc (c-stmt-op .result) _ (c-stmt-op .ensures) (c-enum-told4 .given .1) g (a .units) _ (c-if1 .left)
-    (runs.expr-do (a .at) s lt ac g (a .units - 1) _ _ (c .before .term-arg .ensures) (ap (stepF _) (c .dropped .ensures)))
+    let k = c .before .before .before .before .before .before in
+    statement-arm t k _ _ (c .before .before .before .before .enum-told4 .given .1)
+    (runs.expr-do (a .at) (a .part .now) (c .before .before .before .before .before .before .before .before .before .before .pre .1 .inside) (statement-acc t k _ (c .before .before .before .before .enum-told4 .given .1)) (bits (a .w)) _ _ _ (c .before .term-arg .result) _ (c .before .term-arg .ensures) (c .dropped .ensures))
 
+statement-opcode-returns-7 : (t : ℕ) → statement-opcode-lts.Need-returns-7 (statement-opcode-claims t) (statement-opcode-at t) statement-opcode.Post
+statement-opcode-returns-7 t c =
+    absurd (statement-acc t (c .before .before) _ (c .enum-told5 .given .1))
+
+-- what is left of the part runs as the whole does
 abbrev term-list-Inv-loop : term-list-lts.InvT-loop
-term-list-Inv-loop part left set₀ val₀ units at₀ u₀ set val at u =
+term-list-Inv-loop part left set₀ val₀ units w at₀ u₀ set val at u =
     (at ≤ length part) × Accepts (readList left 0 (drop at part)) ×
-    (ranOf (readList left 0 part) (framed set₀ val₀) u₀ ≡ ranOf (readList left 0 (drop at part)) (framed set val) u)
+    (ranOf (bits w) (readList left 0 part) (framed set₀ val₀) u₀ ≡ ranOf (bits w) (readList left 0 (drop at part)) (framed set val) u)
 
 abbrev term-list-μ-loop : term-list-lts.MeasureT-loop
-term-list-μ-loop part left set₀ val₀ units at₀ u₀ set val at u = length part - at
+term-list-μ-loop part left set₀ val₀ units w at₀ u₀ set val at u = length part - at
 
 term-list-loop-holds : (t : ℕ) → term-list-lts.Need-loop-holds (term-list-claims t) (term-list-at t) term-list.Post term-list-Inv-loop term-list-μ-loop
 term-list-loop-holds t c =
-    let a = c .before .args in
-    let s = a .part .now in
     (omega arith, c .before .pre .1 .1, refl)
 
 term-list-statement-opcode-requires : (t : ℕ) → term-list-lts.Need-statement-opcode-requires (term-list-claims t) (term-list-at t) term-list.Post term-list-Inv-loop term-list-μ-loop
 term-list-statement-opcode-requires t c κs =
-    let c-pre = c .before .before .before .before .before .pre in
-    let c-loop-test = c .before .before .loop-test in
     let a = c .before .before .before .before .before .args in
     let lp = c .before .before .before .loop in
-    (omega (arith, c-pre .0), (c-loop-test .taken, c-pre .1 .0, runs.list-stmt-acc (a .left) (lp .at) (a .part .now) (framed (lp .set) (lp .val)) (lp .u) (c-loop-test .taken) (lp .inv .1)))
+    let acc = runs.list-stmt-acc (a .left) (lp .at) (a .part .now) (framed (lp .set) (lp .val)) (lp .u) (c .before .before .loop-test .taken) (lp .inv .1) in
+    (omega (arith, c .before .before .before .before .before .pre .0), runs.stmt-ready (a .left) (lp .at) (a .part .now) (c .before .before .loop-test .taken) acc (c .before .before .before .before .before .pre .1 .0))
 
 term-list-loop-less : (t : ℕ) → term-list-lts.Need-loop-less (term-list-claims t) (term-list-at t) term-list.Post term-list-Inv-loop term-list-μ-loop
 term-list-loop-less t c =
-    let c-loop-test = c .before .before .before .before .before .loop-test in
     let a = c .before .before .before .before .before .before .before .before .args in
-    let s = a .part .now in
     let lp = c .before .before .before .before .before .before .loop in
-    let x = c .before .before .statement-opcode in
-    let m = runs.run-more (a .left) (lp .at) s (framed (lp .set) (lp .val)) (lp .u) (c-loop-test .taken) (lp .inv .1) _ (x .ensures) (x .result .next) (ap (λ (o : Out). wayOf (x .result .next) (outSaid o)) (c .enum-told .given .1)) in
-    omega (arith, m)
+    let r = c .before .before .statement-opcode in
+    omega (arith, runs.run-more (a .left) (lp .at) (a .part .now) (framed (lp .set) (lp .val)) (lp .u) (c .before .before .before .before .before .loop-test .taken) (lp .inv .1) (bits (a .w)) _ (r .result) (r .ensures) (sym (c .before .finished .ensures) ∙ c .if1 .taken))
 
 term-list-loop-again : (t : ℕ) → term-list-lts.Need-loop-again (term-list-claims t) (term-list-at t) term-list.Post term-list-Inv-loop term-list-μ-loop
 term-list-loop-again t c =
-    let c-loop-test = c .before .before .before .before .before .loop-test in
     let a = c .before .before .before .before .before .before .before .before .args in
-    let s = a .part .now in
     let lp = c .before .before .before .before .before .before .loop in
-    let x = c .before .before .statement-opcode in
-    let m = runs.run-more (a .left) (lp .at) s (framed (lp .set) (lp .val)) (lp .u) (c-loop-test .taken) (lp .inv .1) _ (x .ensures) (x .result .next) (ap (λ (o : Out). wayOf (x .result .next) (outSaid o)) (c .enum-told .given .1)) in
+    let r = c .before .before .statement-opcode in
+    let m = runs.run-more (a .left) (lp .at) (a .part .now) (framed (lp .set) (lp .val)) (lp .u) (c .before .before .before .before .before .loop-test .taken) (lp .inv .1) (bits (a .w)) _ (r .result) (r .ensures) (sym (c .before .finished .ensures) ∙ c .if1 .taken) in
     (m .1, m .2, lp .inv .2 ∙ m .3)
 
 term-list-returns : (t : ℕ) → term-list-lts.Need-returns (term-list-claims t) (term-list-at t) term-list.Post term-list-Inv-loop term-list-μ-loop
 term-list-returns t c =
-    let c-loop-test = c .before .before .before .before .before .before .loop-test in
-    let a = c .before .before .before .before .before .before .before .before .before .args in
-    let s = a .part .now in
-    let lp = c .before .before .before .before .before .before .before .loop in
-    let x = c .before .before .before .statement-opcode in
-    runs.run-stop (a .left) (lp .at) s (framed (lp .set) (lp .val)) (lp .u) (c-loop-test .taken) (lp .inv .1) _ (x .ensures) _
-    (ap (λ (o : Out). wayOf (x .result .next) (outSaid o)) (c .before .e .given .1)) ∙ sym (lp .inv .2)
+    let a = c .before .before .before .before .before .before .before .before .args in
+    let lp = c .before .before .before .before .before .before .loop in
+    runs.run-stop (a .left) (lp .at) (a .part .now) (framed (lp .set) (lp .val)) (lp .u) (c .before .before .before .before .before .loop-test .taken) (lp .inv .1) (bits (a .w)) _ (c .before .before .statement-opcode .result) (c .before .before .statement-opcode .ensures)
+    (sym (c .before .finished .ensures) ∙ c .if1 .left) ∙ sym (lp .inv .2)
 
 term-list-returns-2 : (t : ℕ) → term-list-lts.Need-returns-2 (term-list-claims t) (term-list-at t) term-list.Post term-list-Inv-loop term-list-μ-loop
 term-list-returns-2 t c =
-    let c-loop-test = c .before .before .before .before .before .loop-test in
-    let a = c .before .before .before .before .before .before .before .before .args in
-    let s = a .part .now in
-    let lp = c .before .before .before .before .before .before .loop in
-    let x = c .before .before .statement-opcode in
-    runs.run-stop (a .left) (lp .at) s (framed (lp .set) (lp .val)) (lp .u) (c-loop-test .taken) (lp .inv .1) _ (x .ensures) _
-    (ap (λ (o : Out). wayOf (x .result .next) (outSaid o)) (c .enum-told2 .given .1)) ∙ sym (lp .inv .2)
-
-term-list-returns-3 : (t : ℕ) → term-list-lts.Need-returns-3 (term-list-claims t) (term-list-at t) term-list.Post term-list-Inv-loop term-list-μ-loop
-term-list-returns-3 t c =
-    let c-loop-test = c .before .before .before .before .before .loop-test in
-    let a = c .before .before .before .before .before .before .before .before .args in
-    let s = a .part .now in
-    let lp = c .before .before .before .before .before .before .loop in
-    let x = c .before .before .statement-opcode in
-    runs.run-stop (a .left) (lp .at) s (framed (lp .set) (lp .val)) (lp .u) (c-loop-test .taken) (lp .inv .1) _ (x .ensures) _
-    (ap (λ (o : Out). wayOf (x .result .next) (outSaid o)) (c .enum-told3 .given .1)) ∙ sym (lp .inv .2)
-
-term-list-returns-4 : (t : ℕ) → term-list-lts.Need-returns-4 (term-list-claims t) (term-list-at t) term-list.Post term-list-Inv-loop term-list-μ-loop
-term-list-returns-4 t c =
-    let c-loop-test = c .before .before .before .before .before .loop-test in
-    let a = c .before .before .before .before .before .before .before .before .args in
-    let s = a .part .now in
-    let lp = c .before .before .before .before .before .before .loop in
-    let x = c .before .before .statement-opcode in
-    runs.run-stop (a .left) (lp .at) s (framed (lp .set) (lp .val)) (lp .u) (c-loop-test .taken) (lp .inv .1) _ (x .ensures) _
-    (ap (λ (o : Out). wayOf (x .result .next) (outSaid o)) (c .enum-told4 .given .1)) ∙ sym (lp .inv .2)
-
-term-list-returns-5 : (t : ℕ) → term-list-lts.Need-returns-5 (term-list-claims t) (term-list-at t) term-list.Post term-list-Inv-loop term-list-μ-loop
-term-list-returns-5 t c =
-    let c-loop-test = c .before .before .before .before .before .before .loop-test in
-    let a = c .before .before .before .before .before .before .before .before .before .args in
-    let s = a .part .now in
-    let lp = c .before .before .before .before .before .before .before .loop in
-    let x = c .before .before .before .statement-opcode in
-    runs.run-stop (a .left) (lp .at) s (framed (lp .set) (lp .val)) (lp .u) (c-loop-test .taken) (lp .inv .1) _ (x .ensures) _
-    (ap (λ (o : Out). wayOf (x .result .next) (outSaid o)) (c .before .e2 .given .1)) ∙ sym (lp .inv .2)
-
-term-list-returns-6 : (t : ℕ) → term-list-lts.Need-returns-6 (term-list-claims t) (term-list-at t) term-list.Post term-list-Inv-loop term-list-μ-loop
-term-list-returns-6 t c =
     let a = c .before .before .before .args in
     let lp = c .before .loop in
-    runs.run-end (a .left) (lp .at) (a .part .now) (framed (lp .set) (lp .val)) (lp .u) (c .loop-test .left) ∙ sym (lp .inv .2)
+    runs.run-end (bits (a .w)) (a .left) (lp .at) (a .part .now) (framed (lp .set) (lp .val)) (lp .u) (c .loop-test .left) ∙ sym (lp .inv .2)
 
 turn-returns : (t : ℕ) → turn-lts.Need-returns (turn-claims t) (turn-at t) turn.Post
 turn-returns t c =
     let a = c .before .before .args in
-    let s = a .part .now in
-    let g = framed (a .set .now) (a .val .now) in
-    let tok = c .before .before .pre .1 .2 in
-    runs.turn-none (a .left) (a .end) (a .at) s tok g (a .units) (c .if1 .taken)
+    runs.turn-none (a .left) (a .end) (a .at) (a .part .now) (c .before .before .pre .1 .2) (bits (a .w)) (framed (a .set .now) (a .val .now)) (a .units) (c .if1 .taken)
 
 turn-eval-requires : (t : ℕ) → turn-lts.Need-eval-requires (turn-claims t) (turn-at t) turn.Post
 turn-eval-requires t c κs =
     let a = c .before .before .before .before .args in
-    let s = a .part .now in
-    let g = framed (a .set .now) (a .val .now) in
-    let tok = c .before .before .before .before .pre .1 .2 in
-    (c .before .before .before .before .pre .1 .1, runs.turn-term-acc (a .left) (a .end) (a .at) s tok)
+    evals.term-ready depthLimit (a .at) (a .part .now) (c .before .before .before .before .pre .1 .1) (runs.turn-term-acc (a .left) (a .end) (a .at) (a .part .now) (c .before .before .before .before .pre .1 .2) (bits (a .w)))
 
-turn-sub-t17 : (t : ℕ) → turn-lts.Need-sub-t17 (turn-claims t) (turn-at t) turn.Post
-turn-sub-t17 t c =
-    let a = c .before .before .before .before .before .before .before .before .args in
-    let s = a .part .now in
-    let g = framed (a .set .now) (a .val .now) in
-    let tok = c .before .before .before .before .before .before .before .before .pre .1 .2 in
-    let q : a .units ≡ suc (a .units - 1) = omega (arith, c .before .before .before .before .before .before .if1 .left) in
-    omega (arith, q)
+-- the body of a predicate that was evaluated
+module _ (t : ℕ) (k : turn-lts.After-known-told2 (turn-claims t) (turn-at t) turn.Post) where
+  turn-body : (let a = k .before .before .before .before .before .before .before .before .args in let m = k .before .v2 .given .0 .1 .0 in let b = take (a .end - m) (drop m (a .part .now)) in
+      (m ≤ a .end) × (length b ≤ blockLimit) × Accepts (readList (a .left) 0 b))
+  turn-body =
+      let a = k .before .before .before .before .before .before .before .before .args in
+      let z = k .before .v2 .given in
+      let b = runs.turn-body (a .left) (a .end) (a .at) (a .part .now) (k .before .before .before .before .before .before .before .before .pre .1 .2) (bits (a .w)) _ _ (a .units) (a .units - 1) (omega (arith, k .before .before .before .before .before .before .if1 .left)) _ (k .before .before .before .eval .ensures) (z .0 .0) (z .0 .1 .0) (z .1) in
+      (b .0, runs.part-short (a .part .now) (a .end - z .0 .1 .0) (z .0 .1 .0) (k .before .before .before .before .before .before .before .before .pre .1 .1), b .1)
 
-turn-sub-t20 : (t : ℕ) → turn-lts.Need-sub-t20 (turn-claims t) (turn-at t) turn.Post
-turn-sub-t20 t c =
-    let a = c .before .before .before .before .before .before .before .before .before .args in
-    let s = a .part .now in
-    let g = framed (a .set .now) (a .val .now) in
-    let tok = c .before .before .before .before .before .before .before .before .before .pre .1 .2 in
-    let q : a .units ≡ suc (a .units - 1) = omega (arith, c .before .before .before .before .before .before .before .if1 .left) in
-    omega (arith, q)
+turn-sub-t18 : (t : ℕ) → turn-lts.Need-sub-t18 (turn-claims t) (turn-at t) turn.Post
+turn-sub-t18 t c =
+    omega (arith, c .before .before .before .before .before .before .if1 .left)
+
+turn-sub-t21 : (t : ℕ) → turn-lts.Need-sub-t21 (turn-claims t) (turn-at t) turn.Post
+turn-sub-t21 t c =
+    omega (arith, c .before .before .before .before .before .before .before .if1 .left)
 
 turn-returns-2 : (t : ℕ) → turn-lts.Need-returns-2 (turn-claims t) (turn-at t) turn.Post
 turn-returns-2 t c =
     let a = c .before .before .before .before .before .before .before .before .before .args in
-    let s = a .part .now in
-    let g = framed (a .set .now) (a .val .now) in
-    let tok = c .before .before .before .before .before .before .before .before .before .pre .1 .2 in
-    let q : a .units ≡ suc (a .units - 1) = omega (arith, c .before .before .before .before .before .before .before .if1 .left) in
     let z = c .before .before .v2 .given in
-    runs.turn-false (a .left) (a .end) (a .at) s tok g (a .units) (a .units - 1) q _ (c .before .before .before .before .eval .ensures) (z .0 .0) (z .0 .1 .0) (z .1) (c .if2 .taken)
+    runs.turn-false (a .left) (a .end) (a .at) (a .part .now) (c .before .before .before .before .before .before .before .before .before .pre .1 .2) (bits (a .w)) _ _ (a .units) (a .units - 1) (omega (arith, c .before .before .before .before .before .before .before .if1 .left)) _ (c .before .before .before .before .eval .ensures)
+    (z .0 .0) (z .0 .1 .0) (z .1) (c .if2 .taken)
 
 turn-sub-term-list : (t : ℕ) → turn-lts.Need-sub-term-list (turn-claims t) (turn-at t) turn.Post
 turn-sub-term-list t c =
-    let a = c .before .before .before .before .before .before .before .before .before .args in
-    let s = a .part .now in
-    let g = framed (a .set .now) (a .val .now) in
-    let tok = c .before .before .before .before .before .before .before .before .before .pre .1 .2 in
-    let q : a .units ≡ suc (a .units - 1) = omega (arith, c .before .before .before .before .before .before .before .if1 .left) in
-    let z = c .before .before .v2 .given in
-    let bd = runs.turn-body (a .left) (a .end) (a .at) s tok g (a .units) (a .units - 1) q _ (c .before .before .before .before .eval .ensures) (z .0 .0) (z .0 .1 .0) (z .1) in
-    omega (arith, bd .0, c .before .before .before .before .before .before .before .before .before .pre .1 .0)
+    omega (arith, turn-body t (c .before) .0)
 
 turn-part-term-list-start : (t : ℕ) → turn-lts.Need-part-term-list-start (turn-claims t) (turn-at t) turn.Post
 turn-part-term-list-start t c =
-    let a = c .before .before .before .before .before .before .before .before .before .args in
-    let s = a .part .now in
-    let g = framed (a .set .now) (a .val .now) in
-    let tok = c .before .before .before .before .before .before .before .before .before .pre .1 .2 in
-    let q : a .units ≡ suc (a .units - 1) = omega (arith, c .before .before .before .before .before .before .before .if1 .left) in
-    let z = c .before .before .v2 .given in
-    let bd = runs.turn-body (a .left) (a .end) (a .at) s tok g (a .units) (a .units - 1) q _ (c .before .before .before .before .eval .ensures) (z .0 .0) (z .0 .1 .0) (z .1) in
-    omega (arith, bd .0, c .before .before .before .before .before .before .before .before .before .pre .1 .0)
+    omega (arith, turn-body t (c .before) .0)
 
 turn-part-term-list-end : (t : ℕ) → turn-lts.Need-part-term-list-end (turn-claims t) (turn-at t) turn.Post
 turn-part-term-list-end t c =
-    let a = c .before .before .before .before .before .before .before .before .before .args in
-    let s = a .part .now in
-    let g = framed (a .set .now) (a .val .now) in
-    let tok = c .before .before .before .before .before .before .before .before .before .pre .1 .2 in
-    let q : a .units ≡ suc (a .units - 1) = omega (arith, c .before .before .before .before .before .before .before .if1 .left) in
-    let z = c .before .before .v2 .given in
-    let bd = runs.turn-body (a .left) (a .end) (a .at) s tok g (a .units) (a .units - 1) q _ (c .before .before .before .before .eval .ensures) (z .0 .0) (z .0 .1 .0) (z .1) in
-    omega (arith, bd .0, c .before .before .before .before .before .before .before .before .before .pre .1 .0)
+    omega (arith, turn-body t (c .before) .0, c .before .before .before .before .before .before .before .before .before .pre .1 .0)
 
 turn-sub-term-list-2 : (t : ℕ) → turn-lts.Need-sub-term-list-2 (turn-claims t) (turn-at t) turn.Post
 turn-sub-term-list-2 t c =
-    let a = c .before .before .before .before .before .before .before .before .before .before .before .before .args in
-    let s = a .part .now in
-    let g = framed (a .set .now) (a .val .now) in
-    let tok = c .before .before .before .before .before .before .before .before .before .before .before .before .pre .1 .2 in
-    let q : a .units ≡ suc (a .units - 1) = omega (arith, c .before .before .before .before .before .before .before .before .before .before .if1 .left) in
-    omega (arith, q)
+    omega (arith, c .before .before .before .before .before .before .before .before .before .before .if1 .left)
 
 turn-term-list-requires : (t : ℕ) → turn-lts.Need-term-list-requires (turn-claims t) (turn-at t) turn.Post
 turn-term-list-requires t c κs =
-    let c-pre = c .before .before .before .before .before .before .before .before .before .before .before .before .pre in
-    let c-if1 = c .before .before .before .before .before .before .before .before .before .before .if1 in
-    let c-eval = c .before .before .before .before .before .before .before .eval in
-    let c-v2 = c .before .before .before .before .before .v2 in
-    let a = c .before .before .before .before .before .before .before .before .before .before .before .before .args in
-    let s = a .part .now in
-    let g = framed (a .set .now) (a .val .now) in
-    let tok = c-pre .1 .2 in
-    let q : a .units ≡ suc (a .units - 1) = omega (arith, c-if1 .left) in
-    let z = c-v2 .given in
-    let bd = runs.turn-body (a .left) (a .end) (a .at) s tok g (a .units) (a .units - 1) q _ (c-eval .ensures) (z .0 .0) (z .0 .1 .0) (z .1) in
-    (omega (arith, c-pre .0), (omega (arith, c-pre .1, length-take (a .end - z .0 .1 .0) (drop (z .0 .1 .0) s), length-drop (z .0 .1 .0) s), bd .1))
+    let b = turn-body t (c .before .before .before .before) in (omega (arith, c .before .before .before .before .before .before .before .before .before .before .before .before .pre .0), (b .1, b .2))
 
 turn-returns-3 : (t : ℕ) → turn-lts.Need-returns-3 (turn-claims t) (turn-at t) turn.Post
 turn-returns-3 t c =
     let a = c .before .before .before .before .before .before .before .before .args in
-    let s = a .part .now in
-    let g = framed (a .set .now) (a .val .now) in
-    let tok = c .before .before .before .before .before .before .before .before .pre .1 .2 in
-    let q : a .units ≡ suc (a .units - 1) = omega (arith, c .before .before .before .before .before .before .if1 .left) in
-    runs.turn-missing (a .left) (a .end) (a .at) s tok g (a .units) (a .units - 1) q _ (c .before .before .before .eval .ensures) _ (c .before .v .given .1)
+    runs.turn-missing (a .left) (a .end) (a .at) (a .part .now) (c .before .before .before .before .before .before .before .before .pre .1 .2) (bits (a .w)) _ _ (a .units) (a .units - 1) (omega (arith, c .before .before .before .before .before .before .if1 .left)) _ (c .before .before .before .eval .ensures) _ (c .before .v .given .1)
 
 turn-returns-4 : (t : ℕ) → turn-lts.Need-returns-4 (turn-claims t) (turn-at t) turn.Post
 turn-returns-4 t c =
-    let c-pre = c .before .before .before .before .before .before .before .before .before .before .before .before .before .pre in
-    let c-if1 = c .before .before .before .before .before .before .before .before .before .before .before .if1 in
-    let c-eval = c .before .before .before .before .before .before .before .before .eval in
-    let c-v2 = c .before .before .before .before .before .before .v2 in
     let a = c .before .before .before .before .before .before .before .before .before .before .before .before .before .args in
-    let s = a .part .now in
-    let g = framed (a .set .now) (a .val .now) in
-    let tok = c-pre .1 .2 in
-    let q : a .units ≡ suc (a .units - 1) = omega (arith, c-if1 .left) in
-    let z = c-v2 .given in
-    runs.turn-true (a .left) (a .end) (a .at) s tok g (a .units) (a .units - 1) q _ (c-eval .ensures) (z .0 .0) (z .0 .1 .0) (z .1)
-    (c .before .before .before .before .if2 .left) _ (c .term-list .ensures) _ refl
+    let z = c .before .before .before .before .before .before .v2 .given in
+    runs.turn-true (a .left) (a .end) (a .at) (a .part .now) (c .before .before .before .before .before .before .before .before .before .before .before .before .before .pre .1 .2) (bits (a .w)) _ _ (a .units) (a .units - 1) (omega (arith, c .before .before .before .before .before .before .before .before .before .before .before .if1 .left)) _ (c .before .before .before .before .before .before .before .before .eval .ensures)
+    (z .0 .0) (z .0 .1 .0) (z .1) (c .before .before .before .before .if2 .left) _ (c .term-list .ensures)
 
+-- the turns from here on are those from the start
 abbrev turns-Inv-loop : turns-lts.InvT-loop
-turns-Inv-loop part at end left set₀ val₀ units u₀ set val u =
-    (k : ℕ) × (u < k) × (turnsBy left part end at (readTerm depthLimit 0 (drop at part)) (suc u₀) (framed set₀ val₀) u₀ ≡
-    turnsBy left part end at (readTerm depthLimit 0 (drop at part)) k (framed set val) u)
+turns-Inv-loop part at end left set₀ val₀ units w u₀ set val u =
+    turnsBy left part end at (bits w) (readTerm depthLimit 0 (drop at part)) (framed set₀ val₀) u₀ ≡
+    turnsBy left part end at (bits w) (readTerm depthLimit 0 (drop at part)) (framed set val) u
 
 abbrev turns-μ-loop : turns-lts.MeasureT-loop
-turns-μ-loop part at end left set₀ val₀ units u₀ set val u = u
+turns-μ-loop part at end left set₀ val₀ units w u₀ set val u = u
 
-turns-loop-holds : (t : ℕ) → turns-lts.Need-loop-holds (turn-below t, turn.Post) (turns-at t) turns.Post turns-Inv-loop turns-μ-loop
+turns-loop-holds : (t : ℕ) → turns-lts.Need-loop-holds (turns-claims t) (turns-at t) turns.Post turns-Inv-loop turns-μ-loop
 turns-loop-holds t c =
-    let a = c .before .args in
-    let s = a .part .now in
-    (suc (a .units), omega arith, refl)
+    refl
 
-turns-turn-requires : (t : ℕ) → turns-lts.Need-turn-requires (turn-below t, turn.Post) (turns-at t) turns.Post turns-Inv-loop turns-μ-loop
+turns-turn-requires : (t : ℕ) → turns-lts.Need-turn-requires (turns-claims t) (turns-at t) turns.Post turns-Inv-loop turns-μ-loop
 turns-turn-requires t c κs =
     (omega (arith, c .before .before .before .before .pre .0), c .before .before .before .before .pre .1)
 
-turns-loop-less : (t : ℕ) → turns-lts.Need-loop-less (turn-below t, turn.Post) (turns-at t) turns.Post turns-Inv-loop turns-μ-loop
+turns-loop-less : (t : ℕ) → turns-lts.Need-loop-less (turns-claims t) (turns-at t) turns.Post turns-Inv-loop turns-μ-loop
 turns-loop-less t c =
     let a = c .before .before .before .before .before .before .before .args in
-    let s = a .part .now in
-    let tok = c .before .before .before .before .before .before .before .pre .1 .2 in
     let lp = c .before .before .before .before .before .loop in
-    let ag = runs.turns-again (a .left) (a .end) (a .at) s tok (framed (lp .set) (lp .val)) (lp .u) _ (c .before .before .turn .ensures) (lp .inv .0) (lp .inv .1) (ap (λ (o : Out). goOf (outSaid o)) (c .enum-told .given .1)) in
-    omega (arith, ag .0)
+    let r = c .before .before .turn in
+    omega (arith, runs.turns-again (a .left) (a .end) (a .at) (a .part .now) (c .before .before .before .before .before .before .before .pre .1 .2) (bits (a .w)) (framed (lp .set) (lp .val)) _ (lp .u) _ (r .result .out) (r .ensures) (sym (c .before .turns-on .ensures) ∙ c .if1 .taken) .0)
 
-turns-loop-again : (t : ℕ) → turns-lts.Need-loop-again (turn-below t, turn.Post) (turns-at t) turns.Post turns-Inv-loop turns-μ-loop
+turns-loop-again : (t : ℕ) → turns-lts.Need-loop-again (turns-claims t) (turns-at t) turns.Post turns-Inv-loop turns-μ-loop
 turns-loop-again t c =
     let a = c .before .before .before .before .before .before .before .args in
-    let s = a .part .now in
-    let tok = c .before .before .before .before .before .before .before .pre .1 .2 in
     let lp = c .before .before .before .before .before .loop in
-    let ag = runs.turns-again (a .left) (a .end) (a .at) s tok (framed (lp .set) (lp .val)) (lp .u) _ (c .before .before .turn .ensures) (lp .inv .0) (lp .inv .1) (ap (λ (o : Out). goOf (outSaid o)) (c .enum-told .given .1)) in
-    (lp .inv .0 - 1, omega (arith, ag .0, lp .inv .1), lp .inv .2 ∙ ag .1)
+    let r = c .before .before .turn in
+    lp .inv ∙ runs.turns-again (a .left) (a .end) (a .at) (a .part .now) (c .before .before .before .before .before .before .before .pre .1 .2) (bits (a .w)) (framed (lp .set) (lp .val)) _ (lp .u) _ (r .result .out) (r .ensures) (sym (c .before .turns-on .ensures) ∙ c .if1 .taken) .1
 
-turns-loop-less-2 : (t : ℕ) → turns-lts.Need-loop-less-2 (turn-below t, turn.Post) (turns-at t) turns.Post turns-Inv-loop turns-μ-loop
-turns-loop-less-2 t c =
-    let a = c .before .before .before .before .before .before .before .args in
-    let s = a .part .now in
-    let tok = c .before .before .before .before .before .before .before .pre .1 .2 in
-    let lp = c .before .before .before .before .before .loop in
-    let ag = runs.turns-again (a .left) (a .end) (a .at) s tok (framed (lp .set) (lp .val)) (lp .u) _ (c .before .before .turn .ensures) (lp .inv .0) (lp .inv .1) (ap (λ (o : Out). goOf (outSaid o)) (c .enum-told2 .given .1)) in
-    omega (arith, ag .0)
-
-turns-loop-again-2 : (t : ℕ) → turns-lts.Need-loop-again-2 (turn-below t, turn.Post) (turns-at t) turns.Post turns-Inv-loop turns-μ-loop
-turns-loop-again-2 t c =
-    let a = c .before .before .before .before .before .before .before .args in
-    let s = a .part .now in
-    let tok = c .before .before .before .before .before .before .before .pre .1 .2 in
-    let lp = c .before .before .before .before .before .loop in
-    let ag = runs.turns-again (a .left) (a .end) (a .at) s tok (framed (lp .set) (lp .val)) (lp .u) _ (c .before .before .turn .ensures) (lp .inv .0) (lp .inv .1) (ap (λ (o : Out). goOf (outSaid o)) (c .enum-told2 .given .1)) in
-    (lp .inv .0 - 1, omega (arith, ag .0, lp .inv .1), lp .inv .2 ∙ ag .1)
-
-turns-returns : (t : ℕ) → turns-lts.Need-returns (turn-below t, turn.Post) (turns-at t) turns.Post turns-Inv-loop turns-μ-loop
+turns-returns : (t : ℕ) → turns-lts.Need-returns (turns-claims t) (turns-at t) turns.Post turns-Inv-loop turns-μ-loop
 turns-returns t c =
-    let c-pre = c .before .before .before .before .before .before .before .before .pre in
     let a = c .before .before .before .before .before .before .before .before .args in
-    let s = a .part .now in
-    let tok = c-pre .1 .2 in
     let lp = c .before .before .before .before .before .before .loop in
-    runs.turns-end (a .left) (a .end) (a .at) s tok (framed (lp .set) (lp .val)) (lp .u) _ (c .before .before .before .turn .ensures) (lp .inv .0)
-    (lp .inv .1) _ (ap (λ (o : Out). goOf (outSaid o)) (c .before .d .given .1)) ∙ sym (lp .inv .2)
-
-turns-returns-2 : (t : ℕ) → turns-lts.Need-returns-2 (turn-below t, turn.Post) (turns-at t) turns.Post turns-Inv-loop turns-μ-loop
-turns-returns-2 t c =
-    let a = c .before .before .before .before .before .before .before .args in
-    let s = a .part .now in
-    let tok = c .before .before .before .before .before .before .before .pre .1 .2 in
-    let lp = c .before .before .before .before .before .loop in
-    runs.turns-end (a .left) (a .end) (a .at) s tok (framed (lp .set) (lp .val)) (lp .u) _ (c .before .before .turn .ensures) (lp .inv .0) (lp .inv .1) _ (ap (λ (o : Out). goOf (outSaid o)) (c .enum-told3 .given .1)) ∙ sym (lp .inv .2)
-
-turns-returns-3 : (t : ℕ) → turns-lts.Need-returns-3 (turn-below t, turn.Post) (turns-at t) turns.Post turns-Inv-loop turns-μ-loop
-turns-returns-3 t c =
-    let a = c .before .before .before .before .before .before .before .args in
-    let s = a .part .now in
-    let tok = c .before .before .before .before .before .before .before .pre .1 .2 in
-    let lp = c .before .before .before .before .before .loop in
-    runs.turns-end (a .left) (a .end) (a .at) s tok (framed (lp .set) (lp .val)) (lp .u) _ (c .before .before .turn .ensures) (lp .inv .0) (lp .inv .1) _ (ap (λ (o : Out). goOf (outSaid o)) (c .enum-told4 .given .1)) ∙ sym (lp .inv .2)
-
-turns-returns-4 : (t : ℕ) → turns-lts.Need-returns-4 (turn-below t, turn.Post) (turns-at t) turns.Post turns-Inv-loop turns-μ-loop
-turns-returns-4 t c =
-    let c-pre = c .before .before .before .before .before .before .before .before .pre in
-    let a = c .before .before .before .before .before .before .before .before .args in
-    let s = a .part .now in
-    let tok = c-pre .1 .2 in
-    let lp = c .before .before .before .before .before .before .loop in
-    runs.turns-end (a .left) (a .end) (a .at) s tok (framed (lp .set) (lp .val)) (lp .u) _ (c .before .before .before .turn .ensures) (lp .inv .0)
-    (lp .inv .1) _ (ap (λ (o : Out). goOf (outSaid o)) (c .before .d2 .given .1)) ∙ sym (lp .inv .2)
+    let r = c .before .before .before .turn in
+    runs.turns-end (a .left) (a .end) (a .at) (a .part .now) (c .before .before .before .before .before .before .before .before .pre .1 .2) (bits (a .w)) (framed (lp .set) (lp .val)) _ (lp .u) _ (r .result .out) (r .ensures) (c .while-out .result)
+    (c .while-out .ensures) (sym (c .before .before .turns-on .ensures) ∙ c .before .if1 .left) ∙ sym (lp .inv)
 
 pub +def-else+def-if-else+def-while+statement-opcode+term-list+turn+turns-spec :
     {M : Type 1} → statement M
 +def-else+def-if-else+def-while+statement-opcode+term-list+turn+turns-spec =
     close μ-def-else μ-def-if-else μ-def-while μ-statement-opcode μ-term-list μ-turn μ-turns
-    (λ t. def-else-lts.spec (pkg-reads.Asked, pkg-reads.Learnt, term-list-below t, term-list.Post) (def-else-at t) def-else.Post (def-else-returns t)
-    (λ c. search needs) (def-else-returns-2 t) (λ c. search needs) (def-else-pkg-requires t) (λ c. search needs) (def-else-add-body-2 t) (λ c. search needs)
-    (def-else-add-end-2 t) (def-else-sub-term-list t) (def-else-part-term-list-start t) (def-else-part-term-list-end t) (def-else-term-list-requires t)
-    (def-else-returns-3 t))
-    (λ t. def-if-else-lts.spec (def-if-else-claims t) (def-if-else-at t) def-if-else.Post (def-if-else-pkg-requires t) (def-if-else-add-end t)
-    (def-if-else-add-eval t) (def-if-else-eval-requires t) (λ c. search needs) (λ c. search needs) (def-if-else-else-end-requires t)
-    (def-if-else-def-else-requires t) (λ c κs. search needs) (def-if-else-sub-term-list t) (def-if-else-part-term-list-start t)
-    (def-if-else-part-term-list-end t) (def-if-else-term-list-requires t) (λ c κs. search needs) (def-if-else-returns t) (def-if-else-returns-2 t)
-    (def-if-else-returns-3 t))
-    (λ t. def-while-lts.spec (def-while-claims t) (def-while-at t) def-while.Post (def-while-pkg-requires t) (def-while-add-end t) (def-while-add-turns t)
+    (λ t. def-else-lts.spec (def-else-claims t) (def-else-at t) def-else.Post (def-else-returns t) (λ c. search needs) (def-else-returns-2 t)
+    (λ c. search needs) (def-else-pkg-requires t) (λ c. search needs) (λ c. search needs) (λ c. search needs) (λ c. search needs) (λ c. search needs)
+    (λ c. search needs) (λ c. search needs) (def-else-term-list-requires t) (def-else-returns-3 t))
+    (λ t. def-if-else-lts.spec (def-if-else-claims t) (def-if-else-at t) def-if-else.Post (def-if-else-pkg-requires t) (λ c. search needs) (λ c. search needs)
+    (def-if-else-eval-requires t) (λ c. search needs) (λ c. search needs) (def-if-else-else-end-requires t) (def-if-else-def-else-requires t)
+    (λ c κs. search needs) (def-if-else-sub-term-list t) (def-if-else-part-term-list-start t) (def-if-else-part-term-list-end t)
+    (def-if-else-term-list-requires t) (λ c κs. search needs) (def-if-else-returns t) (def-if-else-returns-2 t) (def-if-else-returns-3 t))
+    (λ t. def-while-lts.spec (def-while-claims t) (def-while-at t) def-while.Post (def-while-pkg-requires t) (λ c. search needs) (λ c. search needs)
     (def-while-turns-requires t) (λ c κs. search needs) (def-while-returns t))
     (λ t. statement-opcode-lts.spec (statement-opcode-claims t) (statement-opcode-at t) statement-opcode.Post (statement-opcode-returns t) (λ c. search needs)
-    (statement-opcode-shared-slice-read-stmt-op t) (λ c κs. search needs) (λ c. search needs) (λ c. search needs) (λ c κs. search needs) (λ c. search needs)
-    (λ c. search needs) (statement-opcode-eval-requires t) (λ c κs. search needs) (λ c. search needs) (λ c. search needs) (statement-opcode-sub-def-if-else t)
-    (statement-opcode-def-if-else-requires t) (λ c. search needs) (λ c. search needs) (statement-opcode-sub-def-while t) (statement-opcode-def-while-requires t)
-    (λ c. search needs) (statement-opcode-term-arg-requires t) (λ c κs. search needs) (statement-opcode-returns-2 t) (statement-opcode-returns-3 t)
-    (statement-opcode-returns-4 t) (statement-opcode-returns-5 t) (statement-opcode-returns-6 t))
-    (λ t. term-list-lts.spec (statement-opcode-below t, statement-opcode.Post) (term-list-at t) term-list.Post term-list-Inv-loop term-list-μ-loop
-    (term-list-loop-holds t) (term-list-statement-opcode-requires t) (λ c. search needs) (term-list-loop-less t) (term-list-loop-again t) (λ c. search needs)
-    (term-list-returns t) (λ c. search needs) (term-list-returns-2 t) (λ c. search needs) (term-list-returns-3 t) (λ c. search needs) (term-list-returns-4 t)
-    (λ c. search needs) (term-list-returns-5 t) (term-list-returns-6 t))
-    (λ t. turn-lts.spec (eval-reads.Asked, eval-reads.Learnt, term-list-below t, term-list.Post) (turn-at t) turn.Post (turn-returns t) (turn-eval-requires t)
-    (λ c. search needs) (turn-sub-t17 t) (λ c. search needs) (turn-sub-t20 t) (turn-returns-2 t) (turn-sub-term-list t) (turn-part-term-list-start t)
-    (turn-part-term-list-end t) (turn-sub-term-list-2 t) (turn-term-list-requires t) (turn-returns-3 t) (turn-returns-4 t))
-    (λ t. turns-lts.spec (turn-below t, turn.Post) (turns-at t) turns.Post turns-Inv-loop turns-μ-loop (turns-loop-holds t) (turns-turn-requires t)
-    (λ c. search needs) (turns-loop-less t) (turns-loop-again t) (λ c. search needs) (turns-loop-less-2 t) (turns-loop-again-2 t) (λ c. search needs)
-    (turns-returns t) (λ c. search needs) (turns-returns-2 t) (λ c. search needs) (turns-returns-3 t) (λ c. search needs) (turns-returns-4 t))
+    (λ c. search needs) (λ c κs. search needs) (λ c. search needs) (λ c. search needs) (λ c κs. search needs) (λ c. search needs) (λ c. search needs)
+    (statement-opcode-eval-requires t) (λ c κs. search needs) (λ c. search needs) (λ c. search needs) (λ c. search needs)
+    (statement-opcode-def-if-else-requires t) (λ c. search needs) (λ c. search needs) (λ c. search needs) (statement-opcode-def-while-requires t)
+    (λ c. search needs) (statement-opcode-term-arg-requires t) (λ c κs. search needs) (λ c. search needs) (statement-opcode-returns-2 t)
+    (statement-opcode-returns-3 t) (statement-opcode-returns-4 t) (statement-opcode-returns-5 t) (statement-opcode-returns-6 t) (statement-opcode-returns-7 t))
+    (λ t. term-list-lts.spec (term-list-claims t) (term-list-at t) term-list.Post term-list-Inv-loop term-list-μ-loop (term-list-loop-holds t)
+    (term-list-statement-opcode-requires t) (λ c κs. search needs) (term-list-loop-less t) (term-list-loop-again t) (term-list-returns t)
+    (term-list-returns-2 t))
+    (λ t. turn-lts.spec (turn-claims t) (turn-at t) turn.Post (turn-returns t) (turn-eval-requires t) (λ c. search needs) (turn-sub-t18 t) (λ c. search needs)
+    (turn-sub-t21 t) (turn-returns-2 t) (turn-sub-term-list t) (turn-part-term-list-start t) (turn-part-term-list-end t) (turn-sub-term-list-2 t)
+    (turn-term-list-requires t) (turn-returns-3 t) (turn-returns-4 t))
+    (λ t. turns-lts.spec (turns-claims t) (turns-at t) turns.Post turns-Inv-loop turns-μ-loop (turns-loop-holds t) (turns-turn-requires t)
+    (λ c κs. search needs) (turns-loop-less t) (turns-loop-again t) (λ c κs. search needs) (turns-returns t))

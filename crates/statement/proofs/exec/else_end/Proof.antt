@@ -1,7 +1,6 @@
 -- What was read behind the If says where it ends.
-use Prim.Native.Nat.{_+_}
 use Rattle.statement.specs.Lent.{spanned}
-use Rattle.statement.proofs.Reaches.{else-end, else-other, package-in}
+use Rattle.statement.proofs.Reaches.{else-end, else-other}
 use Rattle.statement.proofs.Runs.{else-package, else-next}
 use borrow.Author.Needs.{needs}
 use native.Mathlib.Omega.{arith}
@@ -27,19 +26,12 @@ pkg-requires c κs =
     let pk = else-package (a .left) (a .at) s (c .before .before .if1 .left) (c .if2 .left) (c .before .before .before .before .pre .2) in
     (omega (arith, c .before .before .if1 .left), c .before .before .before .before .pre .1, pk)
 
-add-result-2 : tie.Need-add-result-2
-add-result-2 c =
-    let a = c .before .before .before .before .before .before .args in
-    let s = a .part .now in
-    let k = package-in 0 (a .at + 1) s _ _ (c .before .pkg .ensures) (omega (arith, c .before .before .before .before .if1 .left)) in
-    omega (arith, k, c .before .before .before .before .before .before .pre .1)
-
 returns-3 : tie.Need-returns-3
 returns-3 c =
     let a = c .before .before .before .before .before .before .args in
     let s = a .part .now in
-    else-next (a .left) (a .at) s (c .before .before .before .before .if1 .left) (c .before .before .if2 .left) (c .before .before .before .before .before .before .pre .2) (spanned (c .before .pkg .result)) (c .before .pkg .ensures)
+    else-next (a .left) (a .at) s (c .before .before .before .before .if1 .left) (c .before .before .if2 .left) (c .before .before .before .before .before .before .pre .2) (spanned (c .before .pkg .result)) (c .before .pkg .ensures .is)
 
 pub else-end-spec : {M : Type 1} → statement M
 else-end-spec =
-    tie.close (tie.spec returns (λ c. search needs) returns-2 (λ c. search needs) pkg-requires (λ c. search needs) add-result-2 returns-3)
+    tie.close (tie.spec returns (λ c. search needs) returns-2 (λ c. search needs) pkg-requires (λ c. search needs) (λ c. search needs) returns-3)

@@ -1,6 +1,7 @@
 -- A package that was read is not refused, and holds its own bytes.
 use mathlib.Core.Path.{refl, sym}
 use Rattle.statement.proofs.Packages.{package-no, package-held}
+use Rattle.statement.proofs.Reaches.{spans}
 use Rattle.statement.proofs.Evals.{acc-same}
 use borrow.Author.Needs.{needs}
 use native.Mathlib.Omega.{arith}
@@ -20,7 +21,8 @@ returns-2 c =
     let a = c .before .before .before .before .before .before .args in
     let w = c .before .before .before .pkg-length in
     let z = c .before .w .given in
-    package-held (a .part .now) (a .at) (omega arith) (w .result) (w .ensures) 0 (z .0 .0) (z .0 .1 .0) (z .1) (c .before .before .before .before .before .before .pre .2)
+    let p = c .before .before .before .before .before .before .pre in
+    spans (a .at) (a .part .now) _ (package-held (a .part .now) (a .at) (omega arith) (w .result) (w .ensures) 0 (z .0 .0) (z .0 .1 .0) (z .1) (p .2)) (p .0)
 
 pub pkg-spec : {M : Type 1} → statement M
 pkg-spec =

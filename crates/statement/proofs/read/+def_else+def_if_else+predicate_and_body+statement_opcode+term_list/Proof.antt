@@ -1,10 +1,13 @@
 -- Each return is one law of Reaches. A list's loop holds that what is left reads as the whole does. Calls fall by the depths left alone.
 use mathlib.Core.Path.{_≡_, refl, sym, _∙_, ap}
-use Prim.Native.Nat.{ℕ, _<_, _≤_, _+_, _-_, _*_}
-use lib.ListN.{length, drop, length-take, length-drop}
+use mathlib.Core.List.{List}
+use Prim.Native.Nat.{ℕ, suc, _<_, _≤_, _+_, _-_, _*_}
+use lib.ListN.{length, drop, getD, length-take, length-drop}
+use Rattle.pkg_length.specs.Refusal.{Answer}
+use Rattle.statement.specs.declared.opcode.StmtOp.{StmtOp}
 use Rattle.statement.specs.Tree.{Stmt, return}
 use Rattle.statement.specs.Grammar.{depthLimit}
-use Rattle.statement.specs.Reader.{readTerm, readList, readIf, readHead, whileOf}
+use Rattle.statement.specs.Reader.{Read, reads, thenRead, readTerm, readList, readIf, readHead, whileOf, stmtBy, readStmt}
 use Rattle.statement.specs.Said.{upTo}
 use Rattle.statement.proofs.Reaches as reaches
 use borrow.Author.Needs.{needs}
@@ -27,7 +30,6 @@ use Rattle.statement.proofs.read.term_list.Reads as term-list
 use Rattle.statement.proofs.read.term_list.Kinds as term-list-kinds
 use Rattle.statement.proofs.read.+def_else+def_if_else+predicate_and_body+statement_opcode+term_list.Lts-term_list as term-list-lts
 use Rattle.statement.proofs.opcode.stmt_op.Reads as stmt-op-reads
-use Rattle.statement.proofs.read.expression_opcode.Reads as expression-opcode-reads
 use Rattle.statement.proofs.read.pkg.Reads as pkg-reads
 use Rattle.statement.proofs.term.term_arg.Reads as term-arg-reads
 use Rattle.statement.proofs.read.+def_else+def_if_else+predicate_and_body+statement_opcode+term_list.{
@@ -92,7 +94,7 @@ abbrev predicate-and-body-claims : ℕ → predicate-and-body-lts.Claims
 predicate-and-body-claims t = (pkg-reads.Asked, pkg-reads.Learnt, term-arg-reads.Asked, term-arg-reads.Learnt, term-list-below t, term-list.Post)
 
 abbrev statement-opcode-claims : ℕ → statement-opcode-lts.Claims
-statement-opcode-claims t = (stmt-op-reads.Asked, stmt-op-reads.Learnt, term-arg-reads.Asked, term-arg-reads.Learnt, def-if-else-below t, def-if-else.Post, predicate-and-body-below t, predicate-and-body.Post, expression-opcode-reads.Asked, expression-opcode-reads.Learnt)
+statement-opcode-claims t = (stmt-op-reads.Asked, stmt-op-reads.Learnt, term-arg-reads.Asked, term-arg-reads.Learnt, def-if-else-below t, def-if-else.Post, predicate-and-body-below t, predicate-and-body.Post)
 
 abbrev term-list-claims : ℕ → term-list-lts.Claims
 term-list-claims t = (statement-opcode-below t, statement-opcode.Post)
@@ -335,49 +337,52 @@ statement-opcode-returns : (t : ℕ) → statement-opcode-lts.Need-returns (stat
 statement-opcode-returns t c =
     let a = c .before .before .args in reaches.stmt-deep (a .left) (a .base) (a .at) (a .part .now) (c .if1 .taken)
 
+-- an arm of the match on what the byte starts, and what stands behind the opcode
+module _ (t : ℕ) (k : statement-opcode-lts.After-stmt-op (statement-opcode-claims t) (statement-opcode-at t) statement-opcode.Post) where
+  statement-arm : (o : StmtOp) (x : Answer ℕ) → k .stmt-op .result ≡ o →
+      (let a = k .before .before .before .before .args in
+      x ≡ upTo (a .at) (stmtBy (readList (a .left - 1)) (getD (a .part .now) (a .at) 0) (a .base + a .at) (drop (a .at + 1) (a .part .now)) o) →
+      x ≡ upTo (a .at) (readStmt (a .left) (a .base + a .at) (drop (a .at) (a .part .now))))
+  statement-arm o x =
+      let a = k .before .before .before .before .args in
+      reaches.stmt-arm (a .left) (a .base) (a .at) (a .part .now) (omega (arith, k .before .before .if1 .left)) (k .before .before .before .before .pre .1 .0)
+      (k .stmt-op .result) (k .stmt-op .ensures) o x
+
+  statement-next : {A B : Type 0} (reader : ℕ → List ℕ → Answer (Read A)) (f : A → B) (x : Answer ℕ) →
+      (let a = k .before .before .before .before .args in
+      x ≡ upTo (a .at + 1) (reader (a .base + (a .at + 1)) (drop (a .at + 1) (a .part .now))) →
+      x ≡ upTo (a .at) (thenRead (reader (suc (a .base + a .at)) (drop (a .at + 1) (a .part .now))) (λ y n. reads (f y) (suc n))))
+  statement-next reader f x = let a = k .before .before .before .before .args in reaches.next-one reader f (a .base) (a .at) (drop (a .at + 1) (a .part .now)) x
+
 statement-opcode-returns-2 : (t : ℕ) → statement-opcode-lts.Need-returns-2 (statement-opcode-claims t) (statement-opcode-at t) statement-opcode.Post
 statement-opcode-returns-2 t c =
-    let c-pre = c .before .before .before .before .before .before .pre in
-    let c-stmt-op = c .before .before .stmt-op in
-    let a = c .before .before .before .before .before .before .args in
-    reaches.stmt-arm (a .left) (a .base) (a .at) (a .part .now) (omega (arith, c .before .before .before .before .if1 .left)) (c-pre .1 .0)
-    (c-stmt-op .result) (c-stmt-op .ensures) _ _ (c .enum-told .given .1) refl
+    statement-arm t (c .before .before) _ _ (c .enum-told .given .1) refl
 
 statement-opcode-returns-3 : (t : ℕ) → statement-opcode-lts.Need-returns-3 (statement-opcode-claims t) (statement-opcode-at t) statement-opcode.Post
 statement-opcode-returns-3 t c =
-    let c-pre = c .before .before .before .before .before .before .before .pre in
-    let c-if1 = c .before .before .before .before .before .if1 in
-    let c-stmt-op = c .before .before .before .stmt-op in
-    let a = c .before .before .before .before .before .before .before .args in
-    reaches.stmt-arm (a .left) (a .base) (a .at) (a .part .now) (omega (arith, c-if1 .left)) (c-pre .1 .0) (c-stmt-op .result) (c-stmt-op .ensures) _ _
-    (c .before .enum-told2 .given .1) (reaches.next-one (readTerm depthLimit) return (a .base) (a .at) (drop (a .at + 1) (a .part .now)) _ (c .term-arg .ensures))
+    statement-arm t (c .before .before .before) _ _ (c .before .enum-told2 .given .1) (statement-next t (c .before .before .before) (readTerm depthLimit) return _ (c .term-arg .ensures))
 
 statement-opcode-returns-4 : (t : ℕ) → statement-opcode-lts.Need-returns-4 (statement-opcode-claims t) (statement-opcode-at t) statement-opcode.Post
 statement-opcode-returns-4 t c =
-    let c-pre = c .before .before .before .before .before .before .before .pre in
-    let c-if1 = c .before .before .before .before .before .if1 in
-    let c-stmt-op = c .before .before .before .stmt-op in
     let a = c .before .before .before .before .before .before .before .args in
-    reaches.stmt-arm (a .left) (a .base) (a .at) (a .part .now) (omega (arith, c-if1 .left)) (c-pre .1 .0) (c-stmt-op .result) (c-stmt-op .ensures) _ _
-    (c .before .enum-told3 .given .1) (reaches.next-one (readIf (readList (a .left - 1))) (λ (x : Stmt). x) (a .base) (a .at) (drop (a .at + 1) (a .part .now)) _ (c .def-if-else .ensures))
+    statement-arm t (c .before .before .before) _ _ (c .before .enum-told3 .given .1)
+    (statement-next t (c .before .before .before) (readIf (readList (a .left - 1))) (λ (x : Stmt). x) _ (c .def-if-else .ensures))
 
 statement-opcode-returns-5 : (t : ℕ) → statement-opcode-lts.Need-returns-5 (statement-opcode-claims t) (statement-opcode-at t) statement-opcode.Post
 statement-opcode-returns-5 t c =
-    let c-pre = c .before .before .before .before .before .before .before .pre in
-    let c-if1 = c .before .before .before .before .before .if1 in
-    let c-stmt-op = c .before .before .before .stmt-op in
     let a = c .before .before .before .before .before .before .before .args in
-    reaches.stmt-arm (a .left) (a .base) (a .at) (a .part .now) (omega (arith, c-if1 .left)) (c-pre .1 .0) (c-stmt-op .result) (c-stmt-op .ensures) _ _
-    (c .before .enum-told4 .given .1) (reaches.next-one (readHead (readList (a .left - 1))) whileOf (a .base) (a .at) (drop (a .at + 1) (a .part .now)) _ (c .predicate-and-body .ensures))
+    statement-arm t (c .before .before .before) _ _ (c .before .enum-told4 .given .1)
+    (statement-next t (c .before .before .before) (readHead (readList (a .left - 1))) whileOf _ (c .predicate-and-body .ensures))
 
 statement-opcode-returns-6 : (t : ℕ) → statement-opcode-lts.Need-returns-6 (statement-opcode-claims t) (statement-opcode-at t) statement-opcode.Post
 statement-opcode-returns-6 t c =
-    let c-pre = c .before .before .before .before .before .before .before .pre in
-    let c-if1 = c .before .before .before .before .before .if1 in
-    let c-stmt-op = c .before .before .before .stmt-op in
     let a = c .before .before .before .before .before .before .before .args in
-    reaches.stmt-arm (a .left) (a .base) (a .at) (a .part .now) (omega (arith, c-if1 .left)) (c-pre .1 .0) (c-stmt-op .result) (c-stmt-op .ensures) _ _
-    (c .before .enum-told5 .given .1) (reaches.expr-here (a .base + a .at) (a .at) (a .part .now) (c-pre .1 .0) (readList (a .left - 1)) _ (c .expression-opcode .ensures))
+    statement-arm t (c .before .before .before) _ _ (c .before .enum-told5 .given .1)
+    (reaches.expr-here (a .base + a .at) (a .at) (a .part .now) (c .before .before .before .before .before .before .before .pre .1 .0) (readList (a .left - 1)) _ (c .term-arg2 .ensures))
+
+statement-opcode-returns-7 : (t : ℕ) → statement-opcode-lts.Need-returns-7 (statement-opcode-claims t) (statement-opcode-at t) statement-opcode.Post
+statement-opcode-returns-7 t c =
+    statement-arm t (c .before .before) _ _ (c .enum-told6 .given .1) refl
 
 abbrev term-list-Inv-loop : term-list-lts.InvT-loop
 term-list-Inv-loop part base left at₀ at =
@@ -433,7 +438,7 @@ pub +def-else+def-if-else+predicate-and-body+statement-opcode+term-list-spec :
     (λ t. statement-opcode-lts.spec (statement-opcode-claims t) (statement-opcode-at t) statement-opcode.Post (λ c. search needs) (statement-opcode-returns t)
     (λ c. search needs) (λ c κs. search needs) (λ c. search needs) (λ c. search needs) (λ c. search needs) (λ c. search needs) (λ c κs. search needs)
     (λ c. search needs) (λ c. search needs) (λ c. search needs) (λ c κs. search needs) (λ c. search needs) (λ c. search needs) (λ c. search needs)
-    (λ c κs. search needs) (λ c. search needs) (λ c κs. search needs) (statement-opcode-returns-2 t) (statement-opcode-returns-3 t)
-    (statement-opcode-returns-4 t) (statement-opcode-returns-5 t) (statement-opcode-returns-6 t))
+    (λ c κs. search needs) (λ c. search needs) (λ c κs. search needs) (λ c. search needs) (λ c. search needs) (statement-opcode-returns-2 t)
+    (statement-opcode-returns-3 t) (statement-opcode-returns-4 t) (statement-opcode-returns-5 t) (statement-opcode-returns-6 t) (statement-opcode-returns-7 t))
     (λ t. term-list-lts.spec (term-list-claims t) (term-list-at t) term-list.Post term-list-Inv-loop term-list-μ-loop (term-list-loop-holds t)
     (λ c κs. search needs) (term-list-returns t) (term-list-loop-less t) (term-list-loop-again t) (term-list-returns-2 t))

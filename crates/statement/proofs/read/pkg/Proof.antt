@@ -1,5 +1,4 @@
 -- What the layer below promises of the part from the length on, with its place moved: a refusal is 1 or 2, and a length that was read fits the part.
-use mathlib.Core.Path.{sym, _∙_}
 use Prim.Native.Nat.{_+_}
 use Rattle.statement.proofs.Packages.{package-no, package-early, package-yes}
 use borrow.Author.Needs.{needs}

@@ -1,9 +1,13 @@
 -- Each return is one law of Reaches. Calls fall by the depths left alone.
-use mathlib.Core.Path.{refl, sym, _∙_}
-use Prim.Native.Nat.{ℕ, _<_, _+_, _-_, _*_}
+use mathlib.Core.Path.{_≡_, refl, sym, _∙_}
+use mathlib.Core.List.{List}
+use Prim.Native.Nat.{ℕ, suc, _<_, _+_, _-_, _*_}
 use lib.ListN.{drop}
+use Rattle.pkg_length.specs.Refusal.{Answer}
+use Rattle.statement.specs.declared.opcode.TermOp.{TermOp}
+use Rattle.statement.specs.Said.{upTo}
 use Rattle.statement.specs.Tree.{step}
-use Rattle.statement.specs.Reader.{readBytes, readCell, readOne, readTwo, readTerm, oneOf, twoOf}
+use Rattle.statement.specs.Reader.{Read, reads, thenRead, readBytes, readPlace, readOne, readTwo, termBy, readTerm, oneOf, twoOf}
 use Rattle.statement.proofs.Reaches as reaches
 use borrow.Author.Needs.{needs}
 use native.Mathlib.Omega.{arith}
@@ -87,77 +91,55 @@ term-arg-returns-2 : (t : ℕ) → term-arg-lts.Need-returns-2 (term-arg-claims 
 term-arg-returns-2 t c =
     let a = c .before .before .before .args in reaches.term-end (a .left) (a .base) (a .at) (a .part .now) (omega arith) (c .if2 .taken)
 
+-- an arm of the match on what the byte starts
+term-arg-arm : (t : ℕ) (k : term-arg-lts.After-term-op (term-arg-claims t) (term-arg-at t) term-arg.Post) (o : TermOp) (x : Answer ℕ) → k .term-op .result ≡ o →
+    (let a = k .before .before .before .before .before .args in
+    x ≡ upTo (a .at) (termBy (readTerm (a .left - 1)) (a .base + a .at) (drop (a .at + 1) (a .part .now)) o) →
+    x ≡ upTo (a .at) (readTerm (a .left) (a .base + a .at) (drop (a .at) (a .part .now))))
+term-arg-arm t k o x =
+    let a = k .before .before .before .before .before .args in
+    reaches.term-arm (a .left) (a .base) (a .at) (a .part .now) (omega (arith, k .before .before .before .if1 .left)) (k .before .before .if2 .left)
+    (k .term-op .result) (k .term-op .ensures) o x
+
+-- what stands behind the opcode
+term-arg-next : {A B : Type 0} (t : ℕ) (k : term-arg-lts.After-term-op (term-arg-claims t) (term-arg-at t) term-arg.Post) (reader : ℕ → List ℕ → Answer (Read A))
+    (f : A → B) (x : Answer ℕ) →
+    (let a = k .before .before .before .before .before .args in
+    x ≡ upTo (a .at + 1) (reader (a .base + (a .at + 1)) (drop (a .at + 1) (a .part .now))) →
+    x ≡ upTo (a .at) (thenRead (reader (suc (a .base + a .at)) (drop (a .at + 1) (a .part .now))) (λ y n. reads (f y) (suc n))))
+term-arg-next t k reader f x = let a = k .before .before .before .before .before .args in reaches.next-one reader f (a .base) (a .at) (drop (a .at + 1) (a .part .now)) x
+
 term-arg-returns-3 : (t : ℕ) → term-arg-lts.Need-returns-3 (term-arg-claims t) (term-arg-at t) term-arg.Post
 term-arg-returns-3 t c =
-    let c-if1 = c .before .before .before .before .before .if1 in
-    let c-term-op = c .before .before .term-op in
-    let a = c .before .before .before .before .before .before .before .args in
-    reaches.term-arm (a .left) (a .base) (a .at) (a .part .now) (omega (arith, c-if1 .left)) (c .before .before .before .before .if2 .left)
-    (c-term-op .result) (c-term-op .ensures) _ _ (c .enum-told .given .1) refl
+    term-arg-arm t (c .before .before) _ _ (c .enum-told .given .1) refl
 
 term-arg-returns-4 : (t : ℕ) → term-arg-lts.Need-returns-4 (term-arg-claims t) (term-arg-at t) term-arg.Post
 term-arg-returns-4 t c =
-    let c-if1 = c .before .before .before .before .before .if1 in
-    let c-term-op = c .before .before .term-op in
-    let a = c .before .before .before .before .before .before .before .args in
-    reaches.term-arm (a .left) (a .base) (a .at) (a .part .now) (omega (arith, c-if1 .left)) (c .before .before .before .before .if2 .left)
-    (c-term-op .result) (c-term-op .ensures) _ _ (c .enum-told2 .given .1) refl
+    let k = c .before .before .before .before in let z = c .before .before .op .given in
+    term-arg-arm t k _ _ (z .1) (term-arg-next t k (readBytes (z .0 .0)) (λ x. x) _ (c .bytes .ensures))
 
 term-arg-returns-5 : (t : ℕ) → term-arg-lts.Need-returns-5 (term-arg-claims t) (term-arg-at t) term-arg.Post
 term-arg-returns-5 t c =
-    let c-if1 = c .before .before .before .before .before .before .before .if1 in
-    let c-if2 = c .before .before .before .before .before .before .if2 in
-    let c-term-op = c .before .before .before .before .term-op in
-    let c-op = c .before .before .op in
-    let a = c .before .before .before .before .before .before .before .before .before .args in
-    reaches.term-arm (a .left) (a .base) (a .at) (a .part .now) (omega (arith, c-if1 .left)) (c-if2 .left) (c-term-op .result) (c-term-op .ensures) _ _
-    (c-op .given .1) (reaches.next-one (readBytes (c-op .given .0 .0)) (λ x. x) (a .base) (a .at) (drop (a .at + 1) (a .part .now)) _ (c .bytes .ensures))
+    term-arg-arm t (c .before .before) _ _ (c .enum-told2 .given .1) refl
 
 term-arg-returns-6 : (t : ℕ) → term-arg-lts.Need-returns-6 (term-arg-claims t) (term-arg-at t) term-arg.Post
 term-arg-returns-6 t c =
-    let c-if1 = c .before .before .before .before .before .if1 in
-    let c-term-op = c .before .before .term-op in
-    let a = c .before .before .before .before .before .before .before .args in
-    reaches.term-arm (a .left) (a .base) (a .at) (a .part .now) (omega (arith, c-if1 .left)) (c .before .before .before .before .if2 .left)
-    (c-term-op .result) (c-term-op .ensures) _ _ (c .enum-told3 .given .1) refl
+    let k = c .before .before .before in let z = c .before .enum-told3 .given in
+    term-arg-arm t k _ _ (z .1) (term-arg-next t k readPlace (step (z .0 .0)) _ (c .cell .ensures))
 
 term-arg-returns-7 : (t : ℕ) → term-arg-lts.Need-returns-7 (term-arg-claims t) (term-arg-at t) term-arg.Post
 term-arg-returns-7 t c =
-    let c-if1 = c .before .before .before .before .before .before .if1 in
-    let c-if2 = c .before .before .before .before .before .if2 in
-    let c-term-op = c .before .before .before .term-op in
-    let c-enum-told4 = c .before .enum-told4 in
-    let a = c .before .before .before .before .before .before .before .before .args in
-    reaches.term-arm (a .left) (a .base) (a .at) (a .part .now) (omega (arith, c-if1 .left)) (c-if2 .left) (c-term-op .result) (c-term-op .ensures) _ _
-    (c-enum-told4 .given .1) (reaches.next-one readCell (step (c-enum-told4 .given .0 .0)) (a .base) (a .at) (drop (a .at + 1) (a .part .now)) _ (c .cell .ensures))
+    let k = c .before .before .before .before in let z = c .before .before .op2 .given in
+    term-arg-arm t k _ _ (z .1) (term-arg-next t k (readOne (readTerm (k .before .before .before .before .before .args .left - 1)) (z .0 .1 .0)) (oneOf (z .0 .0)) _ (c .one .ensures))
 
 term-arg-returns-8 : (t : ℕ) → term-arg-lts.Need-returns-8 (term-arg-claims t) (term-arg-at t) term-arg.Post
 term-arg-returns-8 t c =
-    let c-if1 = c .before .before .before .before .before .before .before .if1 in
-    let c-if2 = c .before .before .before .before .before .before .if2 in
-    let c-term-op = c .before .before .before .before .term-op in
-    let c-op2 = c .before .before .op2 in
-    let a = c .before .before .before .before .before .before .before .before .before .args in
-    reaches.term-arm (a .left) (a .base) (a .at) (a .part .now) (omega (arith, c-if1 .left)) (c-if2 .left) (c-term-op .result) (c-term-op .ensures) _ _
-    (c-op2 .given .1) (reaches.next-one (readOne (readTerm (a .left - 1)) (c-op2 .given .0 .1 .0)) (oneOf (c-op2 .given .0 .0)) (a .base) (a .at) (drop (a .at + 1) (a .part .now)) _ (c .one .ensures))
+    let k = c .before .before .before .before in let z = c .before .before .op3 .given in
+    term-arg-arm t k _ _ (z .1) (term-arg-next t k (readTwo (readTerm (k .before .before .before .before .before .args .left - 1)) (z .0 .1 .0)) (twoOf (z .0 .0)) _ (c .two .ensures))
 
 term-arg-returns-9 : (t : ℕ) → term-arg-lts.Need-returns-9 (term-arg-claims t) (term-arg-at t) term-arg.Post
 term-arg-returns-9 t c =
-    let c-if1 = c .before .before .before .before .before .before .before .if1 in
-    let c-if2 = c .before .before .before .before .before .before .if2 in
-    let c-term-op = c .before .before .before .before .term-op in
-    let c-op3 = c .before .before .op3 in
-    let a = c .before .before .before .before .before .before .before .before .before .args in
-    reaches.term-arm (a .left) (a .base) (a .at) (a .part .now) (omega (arith, c-if1 .left)) (c-if2 .left) (c-term-op .result) (c-term-op .ensures) _ _
-    (c-op3 .given .1) (reaches.next-one (readTwo (readTerm (a .left - 1)) (c-op3 .given .0 .1 .0)) (twoOf (c-op3 .given .0 .0)) (a .base) (a .at) (drop (a .at + 1) (a .part .now)) _ (c .two .ensures))
-
-term-arg-returns-10 : (t : ℕ) → term-arg-lts.Need-returns-10 (term-arg-claims t) (term-arg-at t) term-arg.Post
-term-arg-returns-10 t c =
-    let c-if1 = c .before .before .before .before .before .if1 in
-    let c-term-op = c .before .before .term-op in
-    let a = c .before .before .before .before .before .before .before .args in
-    reaches.term-arm (a .left) (a .base) (a .at) (a .part .now) (omega (arith, c-if1 .left)) (c .before .before .before .before .if2 .left)
-    (c-term-op .result) (c-term-op .ensures) _ _ (c .enum-told5 .given .1) refl
+    term-arg-arm t (c .before .before) _ _ (c .enum-told4 .given .1) refl
 
 two-one-requires : (t : ℕ) → two-lts.Need-one-requires (two-claims t) (two-at t) two.Post
 two-one-requires t c κs =
@@ -183,9 +165,8 @@ pub +one+term-arg+two-spec : {M : Type 1} → statement M
     (λ t. one-lts.spec (one-claims t) (one-at t) one.Post (λ c κs. search needs) (one-returns t) (one-dest-requires t) (one-returns-2 t))
     (λ t. term-arg-lts.spec (term-arg-claims t) (term-arg-at t) term-arg.Post (λ c. search needs) (term-arg-returns t) (λ c. search needs)
     (term-arg-returns-2 t) (λ c. search needs) (λ c κs. search needs) (λ c. search needs) (λ c. search needs) (λ c. search needs) (λ c. search needs)
-    (λ c. search needs) (λ c. search needs) (λ c κs. search needs) (λ c. search needs) (λ c. search needs) (λ c. search needs) (λ c. search needs)
-    (λ c κs. search needs) (λ c. search needs) (λ c. search needs) (λ c. search needs) (λ c κs. search needs) (λ c. search needs) (λ c. search needs)
-    (λ c. search needs) (λ c κs. search needs) (λ c. search needs) (λ c. search needs) (term-arg-returns-3 t) (term-arg-returns-4 t) (term-arg-returns-5 t)
-    (term-arg-returns-6 t) (term-arg-returns-7 t) (term-arg-returns-8 t) (term-arg-returns-9 t) (term-arg-returns-10 t))
-    (λ t. two-lts.spec (term-arg-below t, term-arg.Post, one-below t, one.Post) (two-at t) two.Post (λ c κs. search needs) (two-returns t) (two-one-requires t)
-    (two-returns-2 t))
+    (λ c κs. search needs) (λ c. search needs) (λ c. search needs) (λ c. search needs) (λ c. search needs) (λ c κs. search needs) (λ c. search needs)
+    (λ c. search needs) (λ c. search needs) (λ c κs. search needs) (λ c. search needs) (λ c. search needs) (λ c. search needs) (λ c κs. search needs)
+    (λ c. search needs) (λ c. search needs) (term-arg-returns-3 t) (term-arg-returns-4 t) (term-arg-returns-5 t) (term-arg-returns-6 t) (term-arg-returns-7 t)
+    (term-arg-returns-8 t) (term-arg-returns-9 t))
+    (λ t. two-lts.spec (two-claims t) (two-at t) two.Post (λ c κs. search needs) (two-returns t) (two-one-requires t) (two-returns-2 t))
