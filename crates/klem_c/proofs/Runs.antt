@@ -5,7 +5,10 @@ use mathlib.Core.List.{List, []}
 use Prim.Native.Nat.{ℕ}
 use native.Mathlib.Omega.{arith}
 use lib.ListN.{getD}
-use Rattle.pkg_length.specs.Refusal.{Answer}
+use Rattle.pkg_length.specs.Refusal.{Answer, gives, refuses}
+use Rattle.statement.specs.Tree.{Stmts}
+use Rattle.statement.specs.Reader.{readBlock}
+use Rattle.statement.proofs.Theorems.{derives-what-reads}
 use Rattle.statement.specs.declared.CheckAnswer.{CheckAnswer}
 use Rattle.statement.specs.declared.RunAnswer.{RunAnswer}
 use Rattle.statement.specs.Meaning.{Outcome}
@@ -63,3 +66,18 @@ module _ (block frame : List ℕ) (budget : ℕ) (result : List ℕ) where
             ((rw (n .started tree d) at l′) ∙ ap (λ (o : Outcome). frameWords (o .frame)) (n .meaning tree d));
         unfit = λ g. absurd (let z : _≡_ {A = ℕ} 0 1 = cc in omega arith);
       }
+
+-- each of the two leaves one answer open
+pub one-klem-check : (block result : List ℕ) (x y : After) → KlemCheck block result x → KlemCheck block result y → x ≡ y
+one-klem-check block result x y k l = go (readBlock block) refl
+  where
+    go : (a : Answer Stmts) → readBlock block ≡ a → x ≡ y
+    go (gives t) e = let d = derives-what-reads block t e in k .derived t d ∙ sym (l .derived t d)
+    go (refuses n p) e = k .refusal n p e ∙ sym (l .refusal n p e)
+
+pub one-klem-run : (block frame : List ℕ) (budget : ℕ) (result : List ℕ) (x y : After) → KlemRun block frame budget result x → KlemRun block frame budget result y → x ≡ y
+one-klem-run block frame budget result x y k l = go (readBlock block) refl
+  where
+    go : (a : Answer Stmts) → readBlock block ≡ a → x ≡ y
+    go (gives t) e = let d = derives-what-reads block t e in k .meaning t d ∙ sym (l .meaning t d)
+    go (refuses n p) e = k .refusal n p e ∙ sym (l .refusal n p e)
