@@ -1,4 +1,4 @@
-/* Klemovarith: names, paths, the namespace and control blocks of ACPI byte code, proved.
+/* Klemovarith: whole tables, names, paths, the namespace and control blocks of ACPI byte code, proved.
  *
  * Every function takes any bytes and numbers, ends, and never traps. All memory is the caller's; nothing is kept between calls, so
  * that any number of calls may run at once on different memory.
@@ -14,7 +14,7 @@
  * Memory that holds no path is refused (26).
  *
  * Answers. A call that can refuse writes KLEM_RESULT words:
- *   result[0]   0: it gives the values; else the number of its refusal: 1 to 26 of the table of refusals, or one of the library's own
+ *   result[0]   0: it gives the values; else the number of its refusal: 1 to 30 of the table of refusals, or one of the library's own
  *   result[1]   the refusal's place, 0 where it has none
  *   result[2..] the values, as each function says; 0 for those that it does not name, and all 0 on a refusal (but see klem_run)
  * and returns result[0]. Where a slice whose length is fixed has another length, the call returns KLEM_BAD_SLICE and writes nothing,
@@ -54,7 +54,7 @@ extern "C" {
 /* The version of this interface. A new number or a new call changes MINOR; what a program must be changed for changes MAJOR, or MINOR
  * while MAJOR is 0. */
 #define KLEM_VERSION_MAJOR 0
-#define KLEM_VERSION_MINOR 2
+#define KLEM_VERSION_MINOR 3
 #define KLEM_VERSION_PATCH 0
 
 /* Lengths of slices */
@@ -62,10 +62,13 @@ extern "C" {
 #define KLEM_PATH 130            /* bytes of a path: two for the count, 128 for the components */
 #define KLEM_TABLE 1153          /* words of a table: 128 levels, 512 bindings, the count of objects, 512 objects */
 #define KLEM_FRAME 30            /* words of a frame: 15 flags, 15 numbers */
-#define KLEM_SEGMENT 4           /* bytes of a segment */
+#define KLEM_SEGMENT 4           /* bytes of a segment, and of a signature */
+#define KLEM_HEADER_REST 26      /* bytes 10 to 35 of a header */
 #define KLEM_COMPONENT_BYTES 128 /* bytes of all components of a path */
 
 /* Limits */
+#define KLEM_HEADER 36           /* bytes of a header: the body of a whole table starts there */
+#define KLEM_BODY_BYTES 4294967259 /* bytes of the longest body */
 #define KLEM_COMPONENTS 32       /* components of a path */
 #define KLEM_LEVELS 128          /* levels of a table, the root counted */
 #define KLEM_BINDINGS 512        /* bindings of a table */
@@ -104,11 +107,19 @@ extern "C" {
 #define KLEM_BAD_TABLE 24
 #define KLEM_OUT_TOO_SMALL 25
 #define KLEM_BAD_PATH 26
+#define KLEM_TABLE_TOO_SHORT 27
+#define KLEM_BAD_SIGNATURE 28
+#define KLEM_BAD_TABLE_LENGTH 29
+#define KLEM_BAD_CHECKSUM 30
 
 /* The library's own, apart from the table, which may grow */
 #define KLEM_BAD_SLICE 1001 /* a slice whose length is fixed has another; nothing is written */
 #define KLEM_BAD_TYPE 1002  /* a level's type is over 5 */
 #define KLEM_BAD_CELL 1003  /* klem_frame_set of a cell over 14, its place; the frame stays as it was */
+
+/* Signatures of a whole table */
+#define KLEM_DSDT 0
+#define KLEM_SSDT 1
 
 /* Types of a level */
 #define KLEM_SCOPE 0
@@ -139,6 +150,15 @@ uint64_t klem_raw_pkg_length(const uint8_t *input, size_t input_len, uint64_t *r
 uint64_t klem_from_raw_length(const uint8_t *stream, size_t stream_len, size_t raw_length, uint64_t *result, size_t result_len);
 /* whether the stream, of which the front is read, is still within the package with this end offset */
 klem_bool klem_still_parsing(size_t raw_length, size_t end_offset, const uint8_t *stream, size_t stream_len);
+
+/* Whole ACPI tables: a header of KLEM_HEADER bytes, then the body. They have nothing to do with the table of the namespace below */
+
+/* the header at the front of any bytes; what stands after the stated length is not looked at. The body stands at table + KLEM_HEADER up to
+ * table + the third value. values: KLEM_DSDT or KLEM_SSDT, the revision, where the body ends. refuses: 27, 28, 29, 30 */
+uint64_t klem_header_read(const uint8_t *table, size_t table_len, uint64_t *result, size_t result_len);
+/* a header and then the body, at the start of out; length and checksum are worked out, what follows stays. signature: KLEM_SEGMENT bytes;
+ * rest: bytes 10 to 35. values: the bytes written. refuses: 28, 29 (the body is over KLEM_BODY_BYTES), 25 (out stays) */
+uint64_t klem_header_write(const uint8_t *signature, size_t signature_len, uint8_t revision, const uint8_t *rest, size_t rest_len, const uint8_t *body, size_t body_len, uint8_t *out, size_t out_len, uint64_t *result, size_t result_len);
 
 /* Names */
 

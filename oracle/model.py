@@ -1,6 +1,6 @@
-"""Two models in Python: what document 01 says that a call answers, and what the Rust answers where the two are known to differ.
+"""Two models in Python: what documents 01 and 02 say that a call answers, and what the Rust answers where the two are known to differ.
 
-`Paper` is 01 written once more, from its sentences and in another language; it uses nothing of the port, but was written with the port's definitions
+`Paper` is 01 (and R-1 of 02) written once more, from its sentences and in another language; it uses nothing of the port, but was written with the port's definitions
 known. `Rust` follows the published source where
 docs/DIFFERENCES.md has a difference, panics included. oracle/compare.py asks both where the port and the Rust disagree: a difference is known only if
 each side's answer is the one that its model computes, and the Rust's model says which difference it met on the way.
@@ -9,7 +9,8 @@ import re
 
 NAMES = ["UnexpectedEndOfStream", "InvalidPkgLength", "BadOpcode", "TooDeep", "BlockTooLong", "BadNameByte", "EmptyNamesAreInvalid", "InvalidNameSeg",
          "TooManyComponents", "InvalidNormalizedName", "NotAbsolute", "RootHasNoParent", "RootNotAllowed", "TriedToRemoveRootNamespace", "LevelDoesNotExist",
-         "ValueDoesNotExist", "NameCollision", "LevelsFull", "BindingsFull", "ObjectsFull", "NoSuchHandle", "BudgetSpent", "Unset", "BadTable", "OutTooSmall", "BadPath"]
+         "ValueDoesNotExist", "NameCollision", "LevelsFull", "BindingsFull", "ObjectsFull", "NoSuchHandle", "BudgetSpent", "Unset", "BadTable", "OutTooSmall", "BadPath",
+         "TableTooShort", "BadSignature", "BadTableLength", "BadChecksum"]
 COMPONENTS, LEVELS, BINDINGS, OBJECTS, LONGEST, DEPTH = 32, 128, 512, 512, 65536, 16
 ONES = 2 ** 64 - 1
 
@@ -51,6 +52,42 @@ def raw_length(b, end=None):
     if len(b) < 1 + extra:
         raise Refused(1, end)
     return (b[0] & 15) + sum(b[1 + i] << (4 + 8 * i) for i in range(extra)), 1 + extra
+
+
+# ---- whole tables (R-1)
+
+HEADER, LONGEST_BODY = 36, 2 ** 32 - 37
+
+
+def signature(b):
+    if bytes(b) not in (b"DSDT", b"SSDT"):
+        raise Refused(28)
+    return bytes(b).decode()
+
+
+def header(b):
+    """the signature, the revision and the stated length at the front of b"""
+    if len(b) < HEADER:
+        raise Refused(27)
+    name = signature(b[:4])
+    length = int.from_bytes(bytes(b[4:8]), "little")
+    if not HEADER <= length <= len(b):
+        raise Refused(29)
+    if sum(b[:length]) % 256:
+        raise Refused(30)
+    return name, b[8], length
+
+
+def table_bytes(letters, revision, rest, body, room):
+    """the table of these fields, where `room` bytes hold it"""
+    signature(letters)
+    if len(body) > LONGEST_BODY:
+        raise Refused(29)
+    if HEADER + len(body) > room:
+        raise Refused(25)
+    b = letters + list((HEADER + len(body)).to_bytes(4, "little")) + [revision, 0] + rest + body
+    b[9] = -sum(b) % 256
+    return b
 
 
 # ---- names and paths: a list of "\\", "^" and segments of four characters
@@ -231,7 +268,8 @@ class Paper:
     def answer(self, line):
         w = line.split(" ")
         try:
-            return getattr(self, w[0].replace("-", "_"))(*([line[5:]] if w[0] == "text" else w[1:]))
+            call = "whole_table" if w[0] == "table" else w[0].replace("-", "_")
+            return getattr(self, call)(*([line[5:]] if w[0] == "text" else w[1:]))
         except Refused as r:
             return str(r)
 
@@ -392,6 +430,12 @@ class Paper:
         if not found:
             raise Refused(15, 1)
         return "ok %s asked %d" % (shown(found[0]), found[1])
+
+    def whole_table(self, h):
+        return "ok %s revision %d body 36 to %d" % header(unhexed(h))
+
+    def write_table(self, sig, rev, rest, body, room):
+        return "ok " + hexed(table_bytes(unhexed(sig), int(rev, 0), unhexed(rest), unhexed(body), int(room, 0)))
 
     def check(self, h):
         Reader(unhexed(h)).block()

@@ -3,14 +3,21 @@
 
   scripts/make.py            from the repository's root
 
-Four parts, in this order:
+Five parts, in this order:
 1. document 01's cases that are not in crate `cases`, and its impostors' inputs: the answers are the paper's, written here by hand beside each line;
 2. every limit: the answers follow from the limit, by the rules in this file, not from the program;
-3. the shell's own words: its help is the list of docs/KLEM.md, and the examples of that page are true;
-4. the replay: calls on which the port and the Rust agreed (oracle/compare.py --sample), with those answers (scripts/replay.in, replay.out).
+3. request R-1 of document 02, whole tables: the answers are those of oracle/model.py's second reading, and by hand where they are short;
+4. the shell's own words: its help is the list of docs/KLEM.md, and the examples of that page are true;
+5. the replay: calls on which the port and the Rust agreed (oracle/compare.py --sample), with those answers (scripts/replay.in, replay.out).
 """
 import os
 import re
+import sys
+
+HERE = os.path.dirname(os.path.abspath(__file__))
+sys.path.insert(0, HERE + "/../oracle")
+sys.dont_write_bytecode = True
+import model
 
 out = []
 
@@ -25,7 +32,8 @@ def note(text):
 
 NAMES = ["UnexpectedEndOfStream", "InvalidPkgLength", "BadOpcode", "TooDeep", "BlockTooLong", "BadNameByte", "EmptyNamesAreInvalid", "InvalidNameSeg",
          "TooManyComponents", "InvalidNormalizedName", "NotAbsolute", "RootHasNoParent", "RootNotAllowed", "TriedToRemoveRootNamespace", "LevelDoesNotExist",
-         "ValueDoesNotExist", "NameCollision", "LevelsFull", "BindingsFull", "ObjectsFull", "NoSuchHandle", "BudgetSpent", "Unset", "BadTable", "OutTooSmall", "BadPath"]
+         "ValueDoesNotExist", "NameCollision", "LevelsFull", "BindingsFull", "ObjectsFull", "NoSuchHandle", "BudgetSpent", "Unset", "BadTable", "OutTooSmall", "BadPath",
+         "TableTooShort", "BadSignature", "BadTableLength", "BadChecksum"]
 
 
 def refused(n, place=0):
@@ -206,6 +214,55 @@ def limits_of_budget():
     case("run 11 " + block, ran("returned 0", 10, c0=0))
 
 
+def whole_tables():
+    paper, rest = model.Paper(), list(range(10, 36))
+
+    def asked(line):
+        case(line, paper.answer(line))
+        return paper.answer(line)
+
+    def spoilt(table, at, by):
+        return table[:at] + by + table[at + len(by):]
+
+    def read(table):
+        return asked("table " + hexed(table))
+
+    note("request R-1: a header is 36 bytes; 27 before 28 before 29 before 30")
+    good = model.table_bytes(list(b"DSDT"), 2, rest, [0xA3, 0xA4, 0x00], 39)
+    case("table -", refused(27))
+    case("table " + hexed(good[:35]), refused(27))
+    case("table " + "00" * 35, refused(27))
+    case("table " + "00" * 36, refused(28))
+    case("table 44534454" + "00" * 32, refused(29))
+    case("table 4453445424" + "00" * 31, refused(30))
+    case("table " + hexed(good), "ok DSDT revision 2 body 36 to 39")
+    case("table " + hexed(good + [1, 2, 3]), "ok DSDT revision 2 body 36 to 39")
+    note("DSDT or SSDT, nothing else")
+    for letters in (b"SSDT", b"dsdt", b"DSDS", b"TDSD", b"XSDT", b"FACP", b"DSD\0"):
+        read(list(letters) + good[4:])
+        asked("write-table %s 2 %s - 36" % (hexed(letters), hexed(rest)))
+    note("the stated length: at least 36, and no more than the bytes given")
+    for length in (0, 35, 36, 37, 38, 39, 40, 255, 256, 2 ** 31, 2 ** 32 - 1):
+        t = spoilt(good, 4, list(length.to_bytes(4, "little")))
+        read(t)
+        read(spoilt(t, 9, [(t[9] - sum(t[:length])) % 256]))
+    note("the bytes of that length sum to 0, every byte once")
+    for at in (0, 8, 9, 10, 35, 36, 38):
+        read(spoilt(good, at, [good[at] ^ 1]))
+    for c in (0, 1, good[9] - 1, good[9] + 1, 255):
+        read(spoilt(good, 9, [c % 256]))
+    note("writing: 28, then 25; and what was written is read")
+    for letters in ("DSDT", "SSDT"):
+        for revision in (0, 1, 255):
+            for body in ([], [0], [255] * 7, [0xA4, 0x0A, 5], list(range(256)) * 2):
+                for room in (0, 35 + len(body), 36 + len(body), 100000):
+                    answer = asked("write-table %s %d %s %s %d" % (hexed(letters.encode()), revision, hexed(rest), hexed(body), room))
+                case("table " + answer[3:], "ok %s revision %d body 36 to %d" % (letters, revision, 36 + len(body)))
+    case("write-table 00000000 0 %s - 0" % ("00" * 26), refused(28))
+    note("as long as a line may be")
+    asked("write-table 44534454 2 %s %s 100000" % ("00" * 26, "A5" * 99950))
+
+
 def wrong_lines():
     note("lines that are no command")
 
@@ -233,6 +290,17 @@ def wrong_lines():
     wrong("normal =x:", "bad path")
     wrong("run 1 A3 15=1", "bad cell")
     wrong("poke 1153 0", "no such word")
+    usage = "wants write-table SIG REV REST BODY ROOM"
+    wrong("write-table 44534454 2 %s -" % ("00" * 26), usage)
+    wrong("write-table 44534454 2 %s - 36 1" % ("00" * 26), usage)
+    wrong("write-table 445344 2 %s - 36" % ("00" * 26), "wants 4 bytes")
+    wrong("write-table - 2 %s - 36" % ("00" * 26), "wants 4 bytes")
+    wrong("write-table 4453445G 2 %s - 36" % ("00" * 26), "bad hex")
+    wrong("write-table 44534454 256 %s - 36" % ("00" * 26), "bad number")
+    wrong("write-table 44534454 2 %s - 36" % ("00" * 25), "wants 26 bytes")
+    wrong("write-table 44534454 2 %s - 36" % ("00" * 27), "wants 26 bytes")
+    wrong("write-table 44534454 2 %s 0 36" % ("00" * 26), "bad hex")
+    wrong("write-table 44534454 2 %s - 100001" % ("00" * 26), "length over 100000")
     out.append(("", None))
     out.append(("  \t", None))
     wrong("x" * 200000, "no such command")
@@ -465,8 +533,7 @@ def damaged():
     case("digest", "ok %d" % digest(good))
 
 
-PARTS = [paper, limits_of_lengths, limits_of_components, limits_of_depth, limits_of_budget, tables, table_limits, wrong_lines, helped]
-HERE = os.path.dirname(os.path.abspath(__file__))
+PARTS = [paper, limits_of_lengths, limits_of_components, limits_of_depth, limits_of_budget, tables, table_limits, whole_tables, wrong_lines, helped]
 
 
 def main():

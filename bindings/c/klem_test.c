@@ -76,6 +76,40 @@ static void package_lengths(void) {
     MUST(!klem_still_parsing(60, 4, input, 4));
 }
 
+static void whole_tables(void) {
+    uint8_t table[64];
+    uint8_t rest[KLEM_HEADER_REST] = {1, 2, 3};
+    const uint8_t body[3] = {0xA4, 0x0A, 0x05};
+    const uint8_t *dsdt = (const uint8_t *)"DSDT";
+    uint8_t sum = 0;
+    size_t i;
+
+    memset(table, 0xEE, sizeof table);
+    REFUSES(KLEM_BAD_SIGNATURE, 0, klem_header_write((const uint8_t *)"XSDT", 4, 2, rest, sizeof rest, body, 3, table, 64, r, KLEM_RESULT));
+    REFUSES(KLEM_OUT_TOO_SMALL, 0, klem_header_write(dsdt, 4, 2, rest, sizeof rest, body, 3, table, 38, r, KLEM_RESULT));
+    MUST(klem_header_write(dsdt, 3, 2, rest, sizeof rest, body, 3, table, 64, r, KLEM_RESULT) == KLEM_BAD_SLICE);
+    MUST(klem_header_write(dsdt, 4, 2, rest, 25, body, 3, table, 64, r, KLEM_RESULT) == KLEM_BAD_SLICE);
+    MUST(table[0] == 0xEE);
+    GIVES(39, 0, 0, klem_header_write(dsdt, 4, 2, rest, sizeof rest, body, 3, table, 64, r, KLEM_RESULT));
+    for (i = 0; i < 39; i++) {
+        sum = (uint8_t)(sum + table[i]);
+    }
+    MUST(sum == 0 && table[4] == 39 && table[8] == 2 && table[39] == 0xEE);
+    MUST(memcmp(table + 10, rest, KLEM_HEADER_REST) == 0 && memcmp(table + KLEM_HEADER, body, 3) == 0);
+    GIVES(KLEM_DSDT, 2, 39, klem_header_read(table, 64, r, KLEM_RESULT));
+    REFUSES(KLEM_TABLE_TOO_SHORT, 0, klem_header_read(table, 35, r, KLEM_RESULT));
+    REFUSES(KLEM_BAD_TABLE_LENGTH, 0, klem_header_read(table, 38, r, KLEM_RESULT));
+    table[38] ^= 1;
+    REFUSES(KLEM_BAD_CHECKSUM, 0, klem_header_read(table, 39, r, KLEM_RESULT));
+    table[38] ^= 1;
+    table[0] = 'S';
+    REFUSES(KLEM_BAD_CHECKSUM, 0, klem_header_read(table, 39, r, KLEM_RESULT));
+    table[9] = (uint8_t)(table[9] - ('S' - 'D'));
+    GIVES(KLEM_SSDT, 2, 39, klem_header_read(table, 39, r, KLEM_RESULT));
+    table[1] = 's';
+    REFUSES(KLEM_BAD_SIGNATURE, 0, klem_header_read(table, 39, r, KLEM_RESULT));
+}
+
 static void names(void) {
     uint8_t out[KLEM_PATH];
     MUST(klem_is_lead_name_char('_') && !klem_is_lead_name_char('0'));
@@ -430,6 +464,7 @@ static void misuse(void) {
 
 int main(void) {
     package_lengths();
+    whole_tables();
     names();
     paths();
     tables();

@@ -2,6 +2,8 @@
 use crate::rows;
 use crate::said;
 use crate::said::Said;
+use header::HeaderAnswer;
+use header::Signature;
 use name_object::NameAnswer;
 use name_object::NameSaid;
 use namespace::EditAnswer;
@@ -51,6 +53,23 @@ pub fn length(a: LengthAnswer) -> Said {
             length.end_offset as u64,
             0,
         ),
+    }
+}
+
+pub fn table(a: HeaderAnswer) -> Said {
+    match a {
+        HeaderAnswer::Refused(e) => said::refused(e),
+        HeaderAnswer::Read(h) => {
+            let s = h.signature;
+            said::numbers(signed(s), h.revision as u64, h.start as u64, h.end as u64)
+        }
+    }
+}
+
+fn signed(s: Signature) -> usize {
+    match s {
+        Signature::Dsdt => rows::DSDT,
+        Signature::Ssdt => rows::SSDT,
     }
 }
 

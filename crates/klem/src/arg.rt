@@ -9,8 +9,8 @@ use crate::words::Number;
 use crate::words::Span;
 use name_object::AmlName;
 
-// What a line gives its command: paths, numbers, where its hex stands, and where the words start that are not read yet; `open` where the command reads
-// those itself. A fault is a form, with the number and the place of a refusal.
+// What a line gives its command: paths, numbers, where its last hex stands and the two before it, and where the words start that are not read yet; `open`
+// where the command reads those itself. A fault is a form, with the number and the place of a refusal.
 pub struct Args {
     pub first: AmlName,
     pub second: AmlName,
@@ -20,6 +20,8 @@ pub struct Args {
     pub y: u64,
     pub numbers: usize,
     pub hex: Span,
+    pub hex_before: Span,
+    pub hex_first: Span,
     pub rest: usize,
     pub open: bool,
     pub fault: usize,
@@ -39,6 +41,8 @@ fn no_args(rest: usize) -> Args {
     let second = empty();
     let third = empty();
     let hex = Span { from: 0, to: 0 };
+    let hex_before = Span { from: 0, to: 0 };
+    let hex_first = Span { from: 0, to: 0 };
     Args {
         first,
         second,
@@ -48,6 +52,8 @@ fn no_args(rest: usize) -> Args {
         y: 0,
         numbers: 0,
         hex,
+        hex_before,
+        hex_first,
         rest,
         open: false,
         fault: rows::OK,
@@ -56,13 +62,13 @@ fn no_args(rest: usize) -> Args {
     }
 }
 
-// No usage has more than three words behind the first.
+// No usage has more than five words behind the first.
 pub fn read(usage: &[u8], line: &[u8]) -> Args {
     let named = words::next(line, 0);
     let mut a = no_args(named.to);
     let mut at = words::next(usage, 0);
     let mut k: usize = 0;
-    while k < 3 {
+    while k < 5 {
         at = words::next(usage, at.to);
         a = with_word(a, kind(words::spelled(usage, at)), line);
         k += 1;
@@ -70,26 +76,40 @@ pub fn read(usage: &[u8], line: &[u8]) -> Args {
     no_more(a, line)
 }
 
-// What a usage's word asks for: `P` a path, `H` hex, `N` a number, `L` a length, `T` a level's type, `S` a size, `.` nothing, `*` what the command reads.
+// What a usage's word asks for: `P` a path, `H` hex, `N` a number, `B` a byte, `L` a length, `T` a level's type, `S` a size, `.` nothing, `*` what the
+// command reads.
 fn kind(word: &[u8]) -> u8 {
     if word.len() < 3 {
         return b'.';
     }
     match word[0] {
         b'P' => b'P',
-        b'H' => if_second(word, b'E', b'H', b'N'),
-        b'S' => if_second(word, b'I', b'S', b'P'),
+        b'H' => if_at(word, 1, b'E', b'H', b'N'),
+        b'S' => if_at(word, 1, b'I', if_at(word, 2, b'G', b'H', b'S'), b'P'),
+        b'B' => if_at(word, 1, b'O', b'H', b'N'),
+        b'R' => of_table(word),
         b'L' => b'L',
-        b'T' => if_second(word, b'E', b'*', if_second(word, b'Y', b'T', b'P')),
-        b'[' => b'*',
+        b'T' => if_at(word, 1, b'E', b'*', if_at(word, 1, b'Y', b'T', b'P')),
+        b'[' | b'.' => b'*',
         _ => b'N',
     }
 }
 
-// HEX and HANDLE, SIZE and SCOPE, TEXT, TYPE and TARGET start alike.
-fn if_second(word: &[u8], b: u8, then: u8, other: u8) -> u8 {
-    if 1 < word.len() {
-        if word[1] == b {
+// RAW is a number, REV a byte, REST hex, ROOM a length.
+fn of_table(word: &[u8]) -> u8 {
+    if_at(
+        word,
+        2,
+        b'V',
+        b'B',
+        if_at(word, 2, b'S', b'H', if_at(word, 1, b'O', b'L', b'N')),
+    )
+}
+
+// HEX and HANDLE, SIG, SIZE and SCOPE, BODY and BUDGET, TEXT, TYPE and TARGET start alike.
+fn if_at(word: &[u8], i: usize, b: u8, then: u8, other: u8) -> u8 {
+    if i < word.len() {
+        if word[i] == b {
             return then;
         }
     }
@@ -122,18 +142,24 @@ fn no_more(a: Args, line: &[u8]) -> Args {
     a
 }
 
-fn given(mut a: Args, kind: u8, at: Span, word: &[u8]) -> Args {
+fn given(a: Args, kind: u8, at: Span, word: &[u8]) -> Args {
     if word.len() == 0 {
         return faulty(a, rows::WORDS, 0, 0);
     }
     match kind {
         b'P' => with_path(a, path_of(word)),
-        b'H' => {
-            a.hex = at;
-            a
-        }
+        b'H' => with_hex(a, at),
         _ => with_number(a, kind, words::number_of(word)),
     }
+}
+
+fn with_hex(mut a: Args, at: Span) -> Args {
+    let before = a.hex_before;
+    let last = a.hex;
+    a.hex_first = before;
+    a.hex_before = last;
+    a.hex = at;
+    a
 }
 
 fn with_number(mut a: Args, kind: u8, number: Number) -> Args {
@@ -164,6 +190,12 @@ fn limited(kind: u8, n: u64) -> usize {
     }
     if kind == b'T' {
         return rows::BAD_TYPE;
+    }
+    if n < 256 {
+        return rows::OK;
+    }
+    if kind == b'B' {
+        return rows::BAD_NUMBER;
     }
     if n < 100001 {
         return rows::OK;

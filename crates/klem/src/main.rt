@@ -7,6 +7,7 @@ mod calls;
 mod rows;
 mod said;
 mod show;
+mod tables;
 mod words;
 
 use arg::Args;
@@ -104,10 +105,14 @@ fn reply(
             at,
         );
     }
+    if s.form == rows::WRITE_TABLE {
+        let body = words::part(bytes, 0, s.x as usize);
+        return tables::write(a, body, line, line_number, rows, out, at);
+    }
     show::said(out, at, said::at_line(s, line_number), rows)
 }
 
-// What a command says. A run says how long its block is.
+// What a command says. A run says how long its block is, and a table that is to be written how long its body is.
 fn asked(
     k: usize,
     a: Args,
@@ -154,18 +159,20 @@ fn call(
         b'L' => calls::looks(k, a, table),
         b'E' => calls::edits(k, a, table),
         b'R' => said::numbers(rows::RUN, n as u64, 0, 0),
+        b'W' => said::numbers(rows::WRITE_TABLE, n as u64, 0, 0),
         _ => help(rows, words::behind(line, a.rest)),
     }
 }
 
-// What a command is about: bytes, paths, looks at the table or edits of it, runs, help.
+// What a command is about: bytes, paths, looks at the table or edits of it, runs, writing a table, help.
 fn group(k: usize) -> u8 {
     match k {
-        rows::PKG..=rows::NAME | rows::SEG | rows::CHECK => b'B',
+        rows::PKG..=rows::NAME | rows::SEG | rows::CHECK | rows::TABLE => b'B',
         rows::TEXT_IS..=rows::RESOLVE => b'P',
         rows::WELL_FORMED | rows::DIGEST | rows::GET | rows::HANDLE | rows::OBJECT => b'L',
         rows::SEARCH | rows::SEARCH_LEVEL => b'L',
         rows::RUN => b'R',
+        rows::WRITE_TABLE => b'W',
         rows::HELP => b'H',
         _ => b'E',
     }
@@ -382,6 +389,6 @@ fn main() {
     namespace::new(&mut table);
     let mut buffer = [0u8; 265536];
     let mut bytes = [0u8; 100000];
-    let mut out = [0u8; 65536];
+    let mut out = [0u8; 265536];
     serve(&rows::TEXT, &mut table, &mut buffer, &mut bytes, &mut out);
 }

@@ -1,108 +1,117 @@
-// All texts that klem knows, in one table: the usages of its commands, the forms of its answers, the names of the refusals. A row has 32 bytes and at
+// All texts that klem knows, in one table: the usages of its commands, the forms of its answers, the names of the refusals. A row has 40 bytes and at
 // least one blank at its end. One table is lent to all: proving a call that lends a text of its own costs as much as six calls that lend none.
 use crate::words;
 
-pub const TEXT: [u8; 3232] = *b"pkg HEX                         \
-    raw HEX                         \
-    fit LENGTH RAW                  \
-    still END LENGTH                \
-    char HEX                        \
-    name HEX                        \
-    text TEXT                       \
-    write PATH SIZE                 \
-    root                            \
-    seg HEX                         \
-    components COUNT HEX            \
-    normal PATH                     \
-    parent PATH                     \
-    kind PATH                       \
-    resolve PATH SCOPE              \
-    new                             \
-    well-formed                     \
-    digest                          \
-    poke INDEX NUMBER               \
-    level PATH TYPE                 \
-    remove PATH                     \
-    value PATH NUMBER               \
-    value-at PATH SCOPE NUMBER      \
-    alias PATH SCOPE TARGET         \
-    get HANDLE                      \
-    set HANDLE NUMBER               \
-    handle PATH                     \
-    object PATH                     \
-    set-object PATH NUMBER          \
-    search PATH SCOPE               \
-    search-level PATH SCOPE         \
-    check HEX                       \
-    run BUDGET HEX [CELL=NUMBER ..] \
-    help [COMMAND]                  \
-    ok                              \
-    ok #                            \
-    ok handle #                     \
-    ok raw # used #                 \
-    ok raw # end #                  \
-    ok raw # end # used #           \
-    ok lead # digit # name #        \
-    ok absolute # normal # bare #   \
-    ok @                            \
-    ok @ used #                     \
-    ok @ asked #                    \
-    ok @ handle # asked #           \
-    ok*                             \
-    ok $                            \
-    finished                        \
-    returned #                      \
-    break                           \
-    continue                        \
-    \x20units # cells                  \
-    \x20#                              \
-    \x20-                              \
-    ? # bad number                  \
-    refused # at # $                \
-    ? # bad path                    \
-    ? # bad number                  \
-    ? # bad hex                     \
-    ? # bad type                    \
-    ? # length over 100000          \
-    ? # wants $                     \
-    ? # no such command             \
-    ? # wants 1 byte                \
-    ? # wants 4 bytes               \
-    ? # no such word                \
-    ? # bad cell                    \
-    ? # line over 200000 bytes      \
-    klem: 1 line was not understood \
-    klem: # $                       \
-    lines were not understood       \
-    klem: writing failed            \
-    (empty)                         \
-    -                               \
-    UnexpectedEndOfStream           \
-    InvalidPkgLength                \
-    BadOpcode                       \
-    TooDeep                         \
-    BlockTooLong                    \
-    BadNameByte                     \
-    EmptyNamesAreInvalid            \
-    InvalidNameSeg                  \
-    TooManyComponents               \
-    InvalidNormalizedName           \
-    NotAbsolute                     \
-    RootHasNoParent                 \
-    RootNotAllowed                  \
-    TriedToRemoveRootNamespace      \
-    LevelDoesNotExist               \
-    ValueDoesNotExist               \
-    NameCollision                   \
-    LevelsFull                      \
-    BindingsFull                    \
-    ObjectsFull                     \
-    NoSuchHandle                    \
-    BudgetSpent                     \
-    Unset                           \
-    BadTable                        \
-    OutTooSmall                     \
-    BadPath                         ";
+pub const TEXT: [u8; 4400] = *b"pkg HEX                                 \
+    raw HEX                                 \
+    fit LENGTH RAW                          \
+    still END LENGTH                        \
+    char HEX                                \
+    name HEX                                \
+    text TEXT                               \
+    write PATH SIZE                         \
+    root                                    \
+    seg HEX                                 \
+    components COUNT HEX                    \
+    normal PATH                             \
+    parent PATH                             \
+    kind PATH                               \
+    resolve PATH SCOPE                      \
+    new                                     \
+    well-formed                             \
+    digest                                  \
+    poke INDEX NUMBER                       \
+    level PATH TYPE                         \
+    remove PATH                             \
+    value PATH NUMBER                       \
+    value-at PATH SCOPE NUMBER              \
+    alias PATH SCOPE TARGET                 \
+    get HANDLE                              \
+    set HANDLE NUMBER                       \
+    handle PATH                             \
+    object PATH                             \
+    set-object PATH NUMBER                  \
+    search PATH SCOPE                       \
+    search-level PATH SCOPE                 \
+    check HEX                               \
+    run BUDGET HEX [CELL=NUMBER ..]         \
+    table HEX                               \
+    write-table SIG REV REST BODY ROOM      \
+    help [COMMAND]                          \
+    ok                                      \
+    ok #                                    \
+    ok handle #                             \
+    ok raw # used #                         \
+    ok raw # end #                          \
+    ok raw # end # used #                   \
+    ok DSDT revision # body # to #          \
+    ok SSDT revision # body # to #          \
+    ok lead # digit # name #                \
+    ok absolute # normal # bare #           \
+    ok @                                    \
+    ok @ used #                             \
+    ok @ asked #                            \
+    ok @ handle # asked #                   \
+    ok*                                     \
+    ok $                                    \
+    finished                                \
+    returned #                              \
+    break                                   \
+    continue                                \
+    \x20units # cells                          \
+    \x20#                                      \
+    \x20-                                      \
+    ? # bad number                          \
+    refused # at # $                        \
+    ? # bad path                            \
+    ? # bad number                          \
+    ? # bad hex                             \
+    ? # bad type                            \
+    ? # length over 100000                  \
+    ? # wants $                             \
+    ? # no such command                     \
+    ? # wants 1 byte                        \
+    ? # wants 4 bytes                       \
+    ? # wants 26 bytes                      \
+    ? # no such word                        \
+    ? # bad cell                            \
+    ? # line over 200000 bytes              \
+    klem: 1 line was not understood         \
+    klem: # $                               \
+    lines were not understood               \
+    klem: writing failed                    \
+    (empty)                                 \
+    -                                       \
+    UnexpectedEndOfStream                   \
+    InvalidPkgLength                        \
+    BadOpcode                               \
+    TooDeep                                 \
+    BlockTooLong                            \
+    BadNameByte                             \
+    EmptyNamesAreInvalid                    \
+    InvalidNameSeg                          \
+    TooManyComponents                       \
+    InvalidNormalizedName                   \
+    NotAbsolute                             \
+    RootHasNoParent                         \
+    RootNotAllowed                          \
+    TriedToRemoveRootNamespace              \
+    LevelDoesNotExist                       \
+    ValueDoesNotExist                       \
+    NameCollision                           \
+    LevelsFull                              \
+    BindingsFull                            \
+    ObjectsFull                             \
+    NoSuchHandle                            \
+    BudgetSpent                             \
+    Unset                                   \
+    BadTable                                \
+    OutTooSmall                             \
+    BadPath                                 \
+    TableTooShort                           \
+    BadSignature                            \
+    BadTableLength                          \
+    BadChecksum                             ";
 
 // The commands: which row, and how many there are.
 pub const PKG: usize = 0;
@@ -171,94 +180,104 @@ pub const CHECK: usize = 31;
 
 pub const RUN: usize = 32;
 
-pub const HELP: usize = 33;
+pub const TABLE: usize = 33;
 
-pub const COMMANDS: usize = 34;
+pub const WRITE_TABLE: usize = 34;
+
+pub const HELP: usize = 35;
+
+pub const COMMANDS: usize = 36;
 
 // The forms. `#` is the answer's next number, `@` its path, `$` the row that its next number says, `*` the commands' names. From
 // BAD_SIZE to WORDS they are faults of a line's words: the greatest is told, and of those from BAD_NUMBER on the first.
-pub const OK: usize = 34;
+pub const OK: usize = 36;
 
-pub const NUMBER: usize = 35;
+pub const NUMBER: usize = 37;
 
-pub const HANDLE_IS: usize = 36;
+pub const HANDLE_IS: usize = 38;
 
-pub const RAW_LENGTH: usize = 37;
+pub const RAW_LENGTH: usize = 39;
 
-pub const LENGTH: usize = 38;
+pub const LENGTH: usize = 40;
 
-pub const PKG_LENGTH: usize = 39;
+pub const PKG_LENGTH: usize = 41;
 
-pub const CHARS: usize = 40;
+pub const DSDT: usize = 42;
 
-pub const KINDS: usize = 41;
+pub const SSDT: usize = 43;
 
-pub const PATH: usize = 42;
+pub const CHARS: usize = 44;
 
-pub const PATH_USED: usize = 43;
+pub const KINDS: usize = 45;
 
-pub const LEVEL_FOUND: usize = 44;
+pub const PATH: usize = 46;
 
-pub const FOUND: usize = 45;
+pub const PATH_USED: usize = 47;
 
-pub const NAMES: usize = 46;
+pub const LEVEL_FOUND: usize = 48;
 
-pub const USAGE: usize = 47;
+pub const FOUND: usize = 49;
 
-pub const FINISHED: usize = 48;
+pub const NAMES: usize = 50;
 
-pub const RETURNED: usize = 49;
+pub const USAGE: usize = 51;
 
-pub const BREAK: usize = 50;
+pub const FINISHED: usize = 52;
 
-pub const CONTINUE: usize = 51;
+pub const RETURNED: usize = 53;
 
-pub const UNITS: usize = 52;
+pub const BREAK: usize = 54;
 
-pub const CELL: usize = 53;
+pub const CONTINUE: usize = 55;
 
-pub const NO_CELL: usize = 54;
+pub const UNITS: usize = 56;
 
-pub const BAD_SIZE: usize = 55;
+pub const CELL: usize = 57;
 
-pub const REFUSED: usize = 56;
+pub const NO_CELL: usize = 58;
 
-pub const BAD_PATH: usize = 57;
+pub const BAD_SIZE: usize = 59;
 
-pub const BAD_NUMBER: usize = 58;
+pub const REFUSED: usize = 60;
 
-pub const BAD_HEX: usize = 59;
+pub const BAD_PATH: usize = 61;
 
-pub const BAD_TYPE: usize = 60;
+pub const BAD_NUMBER: usize = 62;
 
-pub const TOO_LONG: usize = 61;
+pub const BAD_HEX: usize = 63;
 
-pub const WORDS: usize = 62;
+pub const BAD_TYPE: usize = 64;
 
-pub const NO_COMMAND: usize = 63;
+pub const TOO_LONG: usize = 65;
 
-pub const ONE_BYTE: usize = 64;
+pub const WORDS: usize = 66;
 
-pub const FOUR_BYTES: usize = 65;
+pub const NO_COMMAND: usize = 67;
 
-pub const NO_WORD: usize = 66;
+pub const ONE_BYTE: usize = 68;
 
-pub const BAD_CELL: usize = 67;
+pub const FOUR_BYTES: usize = 69;
 
-pub const LONG_LINE: usize = 68;
+pub const REST_BYTES: usize = 70;
 
-pub const NOT_ONE: usize = 69;
+pub const NO_WORD: usize = 71;
 
-pub const NOT_UNDERSTOOD: usize = 70;
+pub const BAD_CELL: usize = 72;
 
-pub const LINES: usize = 71;
+pub const LONG_LINE: usize = 73;
 
-pub const NOT_WRITTEN: usize = 72;
+pub const NOT_ONE: usize = 74;
 
-pub const EMPTY: usize = 73;
+pub const NOT_UNDERSTOOD: usize = 75;
+
+pub const LINES: usize = 76;
+
+pub const NOT_WRITTEN: usize = 77;
+
+pub const EMPTY: usize = 78;
 
 // The refusals from 1 on stand behind this row.
-pub const REFUSALS: usize = 74;
+pub const REFUSALS: usize = 79;
 
 // A row without the blanks at its end.
 pub fn row(rows: &[u8], k: usize) -> &[u8] {
@@ -268,7 +287,7 @@ pub fn row(rows: &[u8], k: usize) -> &[u8] {
 // A row with them; none where there is no row k.
 fn wide(rows: &[u8], k: usize) -> &[u8] {
     if k < 1000 {
-        return words::part(rows, 32 * k, 32 * k + 32);
+        return words::part(rows, 40 * k, 40 * k + 40);
     }
     words::part(rows, 0, 0)
 }

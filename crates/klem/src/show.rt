@@ -13,7 +13,7 @@ pub fn byte(out: &mut [u8], at: usize, b: u8) -> usize {
     at
 }
 
-fn text(out: &mut [u8], at: usize, s: &[u8]) -> usize {
+pub fn text(out: &mut [u8], at: usize, s: &[u8]) -> usize {
     let mut o = at;
     let mut i = 0;
     while i < s.len() {

@@ -1,10 +1,10 @@
 -- A result is eight stores. A call whose slices fit leaves what it tells: one law for each kind of thing that is lent. Any other leaves all as it was.
-use Rattle.path.specs.Normal.{segmentPath, alone}
+use Rattle.path.specs.Normal.{alone}
 use Rattle.name_object.specs.Name.{nameSaid}
 use Rattle.name_object.specs.declared.NameSaid.{NameSaid}
 use Rattle.path.specs.Normal.{pathSaid}
 use Rattle.path.specs.declared.PathSaid.{PathSaid}
-use Rattle.path.specs.Text.{Wrote}
+use Rattle.pkg_length.specs.Wrote.{Wrote}
 use Rattle.namespace.specs.Search.{searchSaid, levelSaid}
 use Rattle.namespace.specs.declared.SearchSaid.{SearchSaid}
 use Rattle.namespace.specs.declared.LevelSaid.{LevelSaid}
@@ -128,11 +128,6 @@ turned-alone false false new old = refl
 
 -- ## Paths
 
--- four bytes alone make the path of a segment
-pub four : (xs : List ℕ) → segmentPath (getD xs 0 0 ∷ getD xs 1 0 ∷ getD xs 2 0 ∷ getD xs 3 0 ∷ []) ≡ segmentPath xs
-unfolding segmentPath
-four xs = refl
-
 -- the path of the root, beside an answer that gives nothing more
 pub root-told : {m : AmlName} → m ≡ nameOf componentLimit (root ∷ []) → _≡_ {A = Told (Unit {0})} (record { memory = m; said = gives tt }) (told componentLimit (alone (gives (root ∷ []))))
 root-told e = λ i. record { memory = e i; said = gives tt }
@@ -169,6 +164,10 @@ paper-numbered (AmlError.Unset p) h = omega arith
 paper-numbered AmlError.BadTable h = omega arith
 paper-numbered AmlError.OutTooSmall h = omega arith
 paper-numbered AmlError.BadPath h = omega arith
+paper-numbered AmlError.TableTooShort h = omega arith
+paper-numbered AmlError.BadSignature h = omega arith
+paper-numbered AmlError.BadTableLength h = omega arith
+paper-numbered AmlError.BadChecksum h = omega arith
 
 pub name-numbered : (s : NameSaid) → Numbered (nameSaid s)
 name-numbered (NameSaid.Used u) = tt

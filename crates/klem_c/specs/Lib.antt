@@ -1,5 +1,6 @@
 pub mod Result
 pub mod Paths
+pub mod Headers
 pub mod Frames
 pub mod Lengths
 pub mod Tables

@@ -9,8 +9,9 @@ use Rattle.name_object.specs.Memory.{Named, nameOf, pathIn}
 use Rattle.name_object.specs.Name.{nameString}
 use Rattle.name_object.specs.declared.AmlName.{AmlName}
 use Rattle.path.specs.Normal.{absolute, isNormal, oneSegment, normal, resolved, parentOf, segmentPath, alone}
-use Rattle.path.specs.Text.{Wrote, wrote, fromText, textWithin}
-use Rattle.klem_c.specs.Result.{resultWords, resultOf, valued, nothing, one, flag, sized, After, leaves, answers}
+use Rattle.pkg_length.specs.Wrote.{Wrote, wrote}
+use Rattle.path.specs.Text.{fromText, textWithin}
+use Rattle.klem_c.specs.Result.{resultWords, letters, resultOf, valued, nothing, one, flag, sized, After, leaves, answers}
 
 -- KLEM_PATH: the bytes of a path
 abbrev pub pathSize : ℕ
@@ -56,7 +57,7 @@ unfoldable pub klemRoot : List ℕ → List ℕ → After
 klemRoot out result = paths (fitsPath result out) result out (gives (root ∷ []))
 
 unfoldable pub klemFromNameSeg : List ℕ → List ℕ → List ℕ → After
-klemFromNameSeg seg out result = paths (sized resultWords result && (sized pathSize out && sized 4 seg)) result out (segmentPath seg)
+klemFromNameSeg seg out result = paths (sized resultWords result && (sized pathSize out && sized letters seg)) result out (segmentPath seg)
 
 unfoldable pub klemFromComponents : ℕ → List ℕ → List ℕ → List ℕ → After
 klemFromComponents count bytes out result =

@@ -25,6 +25,10 @@ badCell = 1003
 abbrev pub resultWords : ℕ
 resultWords = 8
 
+-- KLEM_SEGMENT: the bytes of a segment, and of a table's signature
+abbrev pub letters : ℕ
+letters = 4
+
 -- zeros up to the words of a result
 abbrev pub filled : List ℕ → List ℕ
 filled ws = ws ++ replicate (resultWords - length ws) 0

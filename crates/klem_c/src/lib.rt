@@ -1,6 +1,7 @@
 // What a kernel links: every call of include/klem.h, on numbers and slices.
 pub mod blocks;
 mod frames;
+pub mod headers;
 pub mod lengths;
 pub mod names;
 pub mod paths;

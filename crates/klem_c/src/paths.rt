@@ -4,6 +4,7 @@ ghost use mathlib.Core.List.{[]};
 ghost use Rattle.klem_c.specs.Paths.{klemRoot, klemFromNameSeg, klemFromComponents, klemFromStr, klemAsString, klemIsNormal, klemIsAbsolute, klemSearchRulesApply, klemNormalize, klemParent, klemResolve};
 use crate::reply;
 use crate::slices;
+use name_object::NameSeg;
 
 #[no_mangle]
 pub extern "C" fn klem_root(out: &mut [u8], result: &mut [u64]) -> u64
@@ -16,10 +17,16 @@ pub extern "C" fn klem_root(out: &mut [u8], result: &mut [u64]) -> u64
 pub extern "C" fn klem_from_name_seg(seg: &[u8], out: &mut [u8], result: &mut [u64]) -> u64
     ensures { λ r. ⌜ record { number = r; result = now (result .exit); lent = now (out .exit) } ≡ klemFromNameSeg (now (seg .entry)) (now (out .entry)) (now (result .entry)) ⌝ }
 {
-    let a = path::from_name_seg(slices::seg_in(seg));
+    let a = path::from_name_seg(NameSeg(slices::four_in(seg)));
     let said = a.said;
     let name = a.name;
-    reply::tell_path(out, result, seg.len() == 4, name, reply::path(said))
+    reply::tell_path(
+        out,
+        result,
+        seg.len() == slices::LETTERS,
+        name,
+        reply::path(said),
+    )
 }
 
 #[no_mangle]

@@ -5,6 +5,7 @@ ghost use mathlib.Core.List.{[], _∷_};
 ghost use lib.Dec.{eqb, ltb};
 ghost use Rattle.pkg_length.specs.Refusal.{gives, refuses, refused};
 ghost use Rattle.pkg_length.specs.Pkg.{rawSaid, lengthSaid, pkgSaid};
+ghost use Rattle.header.specs.Header.{headerSaid, writeSaid};
 ghost use Rattle.name_object.specs.Name.{nameSaid};
 ghost use Rattle.path.specs.Normal.{pathSaid, flagSaid};
 ghost use Rattle.path.specs.Text.{textSaid};
@@ -15,11 +16,15 @@ ghost use Rattle.statement.specs.Frames.{cellSaid};
 ghost use Rattle.statement.specs.Promise.{checkSaid, endSaid};
 ghost use Rattle.klem_c.specs.Result.{badCell, resultWords, resultOf, valued, nothing, one, flag, sized, leaves, wordsOf};
 ghost use Rattle.klem_c.specs.Paths.{pathSize, pathBytes};
+ghost use Rattle.klem_c.specs.Headers.{signatureNumber, headerWords};
 ghost use Rattle.klem_c.specs.Lengths.{rawWords, lengthWords, pkgWords};
 ghost use Rattle.klem_c.specs.Tables.{hitWords};
 ghost use Rattle.klem_c.specs.Blocks.{runWords};
 use crate::frames;
 use crate::slices;
+use header::HeaderAnswer;
+use header::Signature;
+use header::WriteAnswer;
 use name_object::AmlName;
 use name_object::NameSaid;
 use namespace::EditAnswer;
@@ -118,6 +123,37 @@ pub(crate) fn given(first: u64, second: u64, third: u64) -> Reply
         first,
         second,
         third,
+    }
+}
+
+// A signature's number, as klem.h has it.
+fn kind(s: Signature) -> u64
+    ensures { λ r. ⌜ r ≡ signatureNumber s ⌝ }
+{
+    match s {
+        Signature::Dsdt => 0,
+        Signature::Ssdt => 1,
+    }
+}
+
+pub(crate) fn header(a: HeaderAnswer) -> Reply
+    ensures { λ r. ⌜ wordsOf r ≡ resultOf (valued headerWords (headerSaid a)) ⌝ }
+{
+    match a {
+        HeaderAnswer::Read(h) => {
+            let s = h.signature;
+            given(kind(s), h.revision as u64, h.end as u64)
+        }
+        HeaderAnswer::Refused(e) => refusal(e),
+    }
+}
+
+pub(crate) fn written(a: WriteAnswer) -> Reply
+    ensures { λ r. ⌜ wordsOf r ≡ resultOf (valued one (writeSaid a)) ⌝ }
+{
+    match a {
+        WriteAnswer::Length(n) => given(n as u64, 0, 0),
+        WriteAnswer::Refused(e) => refusal(e),
     }
 }
 

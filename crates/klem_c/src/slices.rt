@@ -2,12 +2,11 @@
 ghost use mathlib.Core.Path.{_≡_};
 ghost use mathlib.Core.Bool.{true, _&&_, cond};
 ghost use Prim.Native.Nat.{_+_, _*_, _/_, _%_};
-ghost use mathlib.Core.List.{[], _∷_};
-ghost use lib.ListN.{length, getD};
-ghost use Rattle.klem_c.specs.Result.{sized};
+ghost use lib.ListN.{length};
+ghost use Rattle.klem_c.specs.Result.{sized, letters};
+ghost use Rattle.klem_c.specs.Headers.{restLength};
 ghost use Rattle.klem_c.specs.Paths.{pathSize, pathRoom, pathAt, pathBytes};
 use name_object::AmlName;
-use name_object::NameSeg;
 
 // What a call returns where a slice whose length is fixed has another.
 pub(crate) const BAD_SLICE: u64 = 1001;
@@ -16,6 +15,12 @@ pub(crate) const PATH: usize = 130;
 
 // The bytes of a path's components.
 pub(crate) const BYTES: usize = 128;
+
+// A segment, or a table's signature.
+pub(crate) const LETTERS: usize = 4;
+
+// A header's bytes from 10 on.
+pub(crate) const REST: usize = 26;
 
 pub(crate) const FRAME: usize = 30;
 
@@ -73,14 +78,28 @@ pub(crate) fn bytes_in(src: &[u8]) -> [u8; 128]
     bytes
 }
 
-// A segment, where it has its length.
-pub(crate) fn seg_in(src: &[u8]) -> NameSeg
-    ensures { λ r. ⌜ (sized 4 (now (src .entry)) ≡ true → r .0 ≡ getD (now (src .entry)) 0 0 ∷ getD (now (src .entry)) 1 0 ∷ getD (now (src .entry)) 2 0 ∷ getD (now (src .entry)) 3 0 ∷ []) ⌝ }
+// A segment or a signature, where it has its length.
+pub(crate) fn four_in(src: &[u8]) -> [u8; 4]
+    ensures { λ r. ⌜ (sized letters (now (src .entry)) ≡ true → r ≡ now (src .entry)) ⌝ }
 {
-    if src.len() == 4 {
-        return NameSeg([src[0], src[1], src[2], src[3]]);
+    let mut bytes = [0; 4];
+    if src.len() == LETTERS {
+        copy(&mut bytes, src);
+        return bytes;
     }
-    NameSeg([0, 0, 0, 0])
+    bytes
+}
+
+// A header's bytes from 10 on, where they have their length.
+pub(crate) fn rest_in(src: &[u8]) -> [u8; 26]
+    ensures { λ r. ⌜ (sized restLength (now (src .entry)) ≡ true → r ≡ now (src .entry)) ⌝ }
+{
+    let mut bytes = [0; 26];
+    if src.len() == REST {
+        copy(&mut bytes, src);
+        return bytes;
+    }
+    bytes
 }
 
 // The path that bytes hold, where they have their length.

@@ -16,7 +16,8 @@ use Rattle.name_object.specs.Memory.{nameOf, pathIn, Told, told}
 use Rattle.name_object.specs.declared.AmlName.{AmlName}
 use Rattle.name_object.proofs.Paths.{path-back, fine-later, lead-marks}
 use Rattle.path.specs.Normal.{limited, alone}
-use Rattle.path.specs.Text.{Place, before, inside, padded, consed, reading, afterRoot, textPath, fromText, textOf, textWithin, Wrote, wrote}
+use Rattle.pkg_length.specs.Wrote.{Wrote, wrote}
+use Rattle.path.specs.Text.{Place, before, inside, padded, consed, reading, afterRoot, textPath, fromText, textOf, textWithin}
 use Rattle.path.specs.TextGrammar.{Word, lead, next, Part, word, above, Parts, last, more, Text, bare, rooted, plain}
 use Rattle.path.proofs.Walks.{limited-given, limited-in, limited-over}
 use Rattle.path.proofs.Readings.{read-up, read-lead, read-dot, read-char, text-plain, text-rooted}

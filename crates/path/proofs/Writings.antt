@@ -13,7 +13,8 @@ use Rattle.name_object.specs.Component.{Component, root, up, seg}
 use Rattle.name_object.specs.Memory.{componentOf, pathOk, pathOf, pathIn}
 use Rattle.name_object.specs.declared.AmlName.{AmlName}
 use Rattle.name_object.proofs.Paths.{by-kind}
-use Rattle.path.specs.Text.{textOf, textWithin, Wrote, wrote}
+use Rattle.pkg_length.specs.Wrote.{Wrote, wrote}
+use Rattle.path.specs.Text.{textOf, textWithin}
 use Rattle.path.specs.Inside.{isMark, piece, pieceLength}
 use Rattle.path.proofs.Basics.{path-good}
 use Rattle.path.proofs.Walks.{path-next, length-path}

@@ -3,7 +3,7 @@ use Prim.Native.Nat.{ℕ, suc}
 use mathlib.Core.Bool.{cond}
 use mathlib.Core.List.{List, [], _∷_, _++_}
 use lib.Dec.{leb, ltb, eqb}
-use lib.ListN.{length, getD, drop}
+use lib.ListN.{length, getD}
 use Rattle.pkg_length.specs.Refusal.{Answer, gives, refuses, refused, andThen}
 use Rattle.name_object.specs.Component.{Component, root, up, seg, leadOk, charOk}
 use Rattle.path.specs.Normal.{limited}
@@ -60,16 +60,6 @@ textOf (seg a b c d ∷ x ∷ cs) = a ∷ b ∷ c ∷ d ∷ 0x2E ∷ textOf (x �
 -- the text of a path, 25 where there is no room for it
 unfoldable pub textWithin : ℕ → List Component → Answer (List ℕ)
 textWithin room cs = cond (leb (length (textOf cs)) room) (gives (textOf cs)) (refuses 25 0)
-
--- lent bytes, beside what is said of them
-pub record Wrote : Type 0 where
-  pub out : List ℕ
-  pub said : Answer ℕ
-
--- a text goes to the start of what is lent, and all after it stays; so does everything with a refusal
-abbrev pub wrote : List ℕ → Answer (List ℕ) → Wrote
-wrote out (gives text) = record { out = text ++ drop (length text) out; said = gives (length text) }
-wrote out (refuses n p) = record { out = out; said = refuses n p }
 
 -- what the code's answers say
 abbrev pub textSaid : TextAnswer → Answer ℕ

@@ -1,13 +1,13 @@
 -- The number that n bytes spell, at any n: what the turn of a loop over them does, and how large it is.
-use mathlib.Core.Path.{_≡_, refl, sym}
+use mathlib.Core.Path.{_≡_, refl, sym, ap}
 use mathlib.Core.List.{List, [], _∷_}
-use Prim.Native.Nat.{ℕ, zero, suc, _+_, _-_, _*_, _^_, _≤_, _<_}
+use Prim.Native.Nat.{ℕ, zero, suc, _+_, _-_, _*_, _/_, _%_, _^_, _≤_, _<_}
 use native.Mathlib.Nat.{pow-le-pow-right, pow-suc, one-le-pow}
 use native.Mathlib.Omega.{arith}
 use lib.Dec.{lit<}
 use lib.ListN.{length, getD, take, drop}
 use lib.Seq.{drop-cons, getD-drop}
-use Rattle.pkg_length.specs.Little.{little}
+use Rattle.pkg_length.specs.Little.{little, littleBytes}
 
 little-cons : (b : ℕ) (bs : List ℕ) → little (b ∷ bs) ≡ b + 256 * little bs
 unfolding little
@@ -46,6 +46,29 @@ pub little-within : (m n at : ℕ) (xs : List ℕ) → ((i : ℕ) → getD xs i 
 little-within m n at xs h l =
     let p : 256 ^ n ≤ 256 ^ m = pow-le-pow-right {n = 256} (lit< tt) l in
     omega (arith, little-part n at xs h)
+
+-- the bytes of a number spell it, at any width that holds it
+pub little-bytes : (w n : ℕ) → n < 256 ^ w → little (littleBytes w n) ≡ n
+unfolding little littleBytes
+little-bytes zero n h = omega arith
+little-bytes (suc w) n h =
+    let more : 256 ^ suc w ≡ 256 ^ w * 256 = pow-suc 256 w in
+    let high : little (littleBytes w (n / 256)) ≡ n / 256 = little-bytes w (n / 256) (omega arith) in
+    rw high (omega arith)
+
+-- and the number that bytes spell has those bytes
+pub bytes-little : (xs : List ℕ) → ((i : ℕ) → getD xs i 0 < 256) → littleBytes (length xs) (little xs) ≡ xs
+unfolding little littleBytes
+bytes-little [] h = refl
+bytes-little (x ∷ xs) h =
+    let low : (x + 256 * little xs) % 256 ≡ x = omega (arith, h 0) in
+    let high : (x + 256 * little xs) / 256 ≡ little xs = omega (arith, h 0) in
+    rw (low, high, bytes-little xs (λ i. h (suc i)))
+
+pub bytes-long : (w n : ℕ) → length (littleBytes w n) ≡ w
+unfolding littleBytes
+bytes-long zero n = refl
+bytes-long (suc w) n = ap suc (bytes-long w (n / 256))
 
 -- what a loop down over n bytes from index at on holds at index k
 pub record Spelt (xs : List ℕ) (at n value k : ℕ) : Type 0 where

@@ -1,4 +1,4 @@
--- What every call answers, and document 01's table of refusals: the number and the place of each case of the code's `AmlError`.
+-- What every call answers, and the refusals of documents 01 (to 26) and 02: the number and the place of each case of the code's `AmlError`.
 use Prim.Native.Nat.{ℕ}
 use Rattle.pkg_length.specs.declared.Refusal.{Refusal}
 use Rattle.pkg_length.specs.declared.AmlError.{AmlError}
@@ -29,6 +29,10 @@ use Rattle.pkg_length.specs.declared.AmlError.the-variants.{
   BadTable,
   OutTooSmall,
   BadPath,
+  TableTooShort,
+  BadSignature,
+  BadTableLength,
+  BadChecksum,
 }
 
 -- a call gives a value, or refuses with a number at a place
@@ -69,6 +73,10 @@ paper (Unset p) = (23, p)
 paper BadTable = (24, 0)
 paper OutTooSmall = (25, 0)
 paper BadPath = (26, 0)
+paper TableTooShort = (27, 0)
+paper BadSignature = (28, 0)
+paper BadTableLength = (29, 0)
+paper BadChecksum = (30, 0)
 
 -- a refusal of the code, as the paper states it
 abbrev pub refused : {A : Type 0} → AmlError → Answer A

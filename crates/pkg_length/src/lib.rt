@@ -7,7 +7,7 @@ ghost use Rattle.pkg_length.specs.Pkg.{rawSaid, lengthSaid, pkgSaid, raw
 
 pub mod inner;
 
-// The refusals of document 01's table, under its names and in its order; each with its place where the table gives one.
+// The refusals of document 01's table, under its names and in its order, then those of 02; each with its place where the paper gives one.
 pub enum AmlError {
     UnexpectedEndOfStream(usize),
     InvalidPkgLength(usize),
@@ -35,6 +35,10 @@ pub enum AmlError {
     BadTable,
     OutTooSmall,
     BadPath,
+    TableTooShort,
+    BadSignature,
+    BadTableLength,
+    BadChecksum,
 }
 
 // A refusal as the table numbers it: the number, and the place, 0 where the table gives none.
@@ -71,6 +75,10 @@ impl AmlError {
             AmlError::BadTable => Refusal(24, 0),
             AmlError::OutTooSmall => Refusal(25, 0),
             AmlError::BadPath => Refusal(26, 0),
+            AmlError::TableTooShort => Refusal(27, 0),
+            AmlError::BadSignature => Refusal(28, 0),
+            AmlError::BadTableLength => Refusal(29, 0),
+            AmlError::BadChecksum => Refusal(30, 0),
         }
     }
 }

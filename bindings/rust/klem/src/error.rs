@@ -1,6 +1,6 @@
 use core::fmt;
 
-/// A refusal: the 26 of the table of refusals, under its names and in its order, each with its place where the table gives one; and the
+/// A refusal: the 30 of the table of refusals, under its names and in its order, each with its place where the table gives one; and the
 /// one number of the archive's own that a call of this crate can give.
 ///
 /// [`number`](Error::number) gives the number, [`place`](Error::place) the place, 0 where there is none. docs/REFUSALS.md
@@ -58,10 +58,18 @@ pub enum Error {
     Unset(usize),
     /// 24: the table's memory is not well-formed.
     BadTable,
-    /// 25: the text does not fit.
+    /// 25: the text, or the table, does not fit.
     OutTooSmall,
     /// 26: memory holds no path.
     BadPath,
+    /// 27: a whole table has fewer than 36 bytes.
+    TableTooShort,
+    /// 28: a whole table's signature is neither DSDT nor SSDT.
+    BadSignature,
+    /// 29: a whole table's stated length is under 36 or over the bytes given; or the body to write is too long for one.
+    BadTableLength,
+    /// 30: the bytes of a whole table do not sum to 0 modulo 256.
+    BadChecksum,
     /// 1003: a frame has no such cell to set; its number. It is the archive's own, and not in the table of refusals.
     BadCell(usize),
     /// Any other number. No call of this crate gives it while the archive is the one that the crate was written for: the archive's own
@@ -99,6 +107,10 @@ impl Error {
             24 => Error::BadTable,
             25 => Error::OutTooSmall,
             26 => Error::BadPath,
+            27 => Error::TableTooShort,
+            28 => Error::BadSignature,
+            29 => Error::BadTableLength,
+            30 => Error::BadChecksum,
             1003 => Error::BadCell(place),
             other => Error::NotInTable(other),
         }
@@ -134,6 +146,10 @@ impl Error {
             Error::BadTable => 24,
             Error::OutTooSmall => 25,
             Error::BadPath => 26,
+            Error::TableTooShort => 27,
+            Error::BadSignature => 28,
+            Error::BadTableLength => 29,
+            Error::BadChecksum => 30,
             Error::BadCell(_) => 1003,
             Error::NotInTable(other) => other,
         }
@@ -186,6 +202,10 @@ impl Error {
             Error::BadTable => "BadTable",
             Error::OutTooSmall => "OutTooSmall",
             Error::BadPath => "BadPath",
+            Error::TableTooShort => "TableTooShort",
+            Error::BadSignature => "BadSignature",
+            Error::BadTableLength => "BadTableLength",
+            Error::BadChecksum => "BadChecksum",
             Error::BadCell(_) => "BadCell",
             Error::NotInTable(_) => "NotInTable",
         }

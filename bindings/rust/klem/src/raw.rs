@@ -6,9 +6,10 @@ pub(crate) const RESULT: usize = 8;
 pub(crate) const PATH: usize = 130;
 pub(crate) const TABLE: usize = 1153;
 pub(crate) const FRAME: usize = 30;
+pub(crate) const HEADER: usize = 36;
 
 /// The last number of the table of refusals.
-pub(crate) const REFUSALS: u64 = 26;
+pub(crate) const REFUSALS: u64 = 30;
 
 // The numbers of the archive's own. Slices of a fixed length and the type of a level make the first two impossible here, so that only
 // the tests name them.
@@ -25,6 +26,9 @@ extern "C" {
     pub(crate) fn klem_raw_pkg_length(input: *const u8, input_len: usize, result: *mut u64, result_len: usize) -> u64;
     pub(crate) fn klem_from_raw_length(stream: *const u8, stream_len: usize, raw_length: usize, result: *mut u64, result_len: usize) -> u64;
     pub(crate) fn klem_still_parsing(raw_length: usize, end_offset: usize, stream: *const u8, stream_len: usize) -> bool;
+
+    pub(crate) fn klem_header_read(table: *const u8, table_len: usize, result: *mut u64, result_len: usize) -> u64;
+    pub(crate) fn klem_header_write(signature: *const u8, signature_len: usize, revision: u8, rest: *const u8, rest_len: usize, body: *const u8, body_len: usize, out: *mut u8, out_len: usize, result: *mut u64, result_len: usize) -> u64;
 
     pub(crate) fn klem_is_lead_name_char(byte: u8) -> bool;
     pub(crate) fn klem_is_digit_char(byte: u8) -> bool;

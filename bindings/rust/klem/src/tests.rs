@@ -65,6 +65,13 @@ fn a_call_writes_its_whole_result_or_none_of_it() {
         assert_eq!(refused(|p, l| raw::klem_raw_pkg_length([0x40].as_ptr(), 1, p, l)), Error::UnexpectedEndOfStream(1));
         assert_eq!(number(|p, l| raw::klem_from_raw_length(n, 0, 0, p, l)), 0);
         assert_eq!(refused(|p, l| raw::klem_from_raw_length(n, 0, 1, p, l)), Error::InvalidPkgLength(0));
+        let mut whole = [0u8; 40];
+        let w = whole.as_mut_ptr();
+        let rest = [0u8; 26];
+        assert_eq!(number(|p, l| raw::klem_header_write(b"DSDT".as_ptr(), 4, 2, rest.as_ptr(), 26, block.as_ptr(), 3, w, 40, p, l)), 0);
+        assert_eq!(refused(|p, l| raw::klem_header_write(b"XSDT".as_ptr(), 4, 2, rest.as_ptr(), 26, n, 0, w, 40, p, l)), Error::BadSignature);
+        assert_eq!(number(|p, l| raw::klem_header_read(w, 40, p, l)), 0);
+        assert_eq!(refused(|p, l| raw::klem_header_read(w, 35, p, l)), Error::TableTooShort);
         assert_eq!(number(|p, l| raw::klem_name_string(b"ABCD".as_ptr(), 4, o, PATH, p, l)), 0);
         assert_eq!(refused(|p, l| raw::klem_name_string(b"ABC0"[3..].as_ptr(), 1, o, PATH, p, l)), Error::BadNameByte(0));
 

@@ -1,4 +1,5 @@
 //! Document 01's worked cases, with the answers that it gives, through the archive; the twelve with a P are its proved ones.
+use klem::{write_table, Header, Signature};
 use klem::{
     check, is_digit_char, is_lead_name_char, is_name_char, name_string, pkg_length, raw_pkg_length, run, Component, Ended, Error, Found, FoundLevel,
     Frame, Handle, LevelType, Path, PkgLength, Run, Table,
@@ -273,4 +274,34 @@ fn an_error_as_others_have_it() {
         Ok(text.parse()?)
     }
     assert_eq!(parsed("").map_err(|e| e.to_string()), Err("refused 7 at 0 EmptyNamesAreInvalid".into()));
+}
+
+/// Request R-1: each refusal of a whole table in its order, and reading what was written.
+#[test]
+fn whole_tables() {
+    let rest: [u8; 26] = core::array::from_fn(|i| i as u8);
+    let body = [0xA4, 0x0A, 0x05];
+    let mut table = [0xEE; 64];
+    assert_eq!(write_table(*b"SSDT", 7, &rest, &body, &mut table), Ok(39));
+    assert!(table[39..].iter().all(|b| *b == 0xEE));
+    assert_eq!(table[..39].iter().fold(0u8, |s, b| s.wrapping_add(*b)), 0);
+    assert_eq!((&table[..8], &table[10..36]), (&b"SSDT\x27\0\0\0"[..], &rest[..]));
+    assert_eq!(Header::read(&table), Ok(Header { signature: Signature::Ssdt, revision: 7, body: &body }));
+    assert_eq!(Header::read(&table[..39]), Ok(Header { signature: Signature::Ssdt, revision: 7, body: &body }));
+
+    assert_eq!(Header::read(&table[..35]), Err(Error::TableTooShort));
+    assert_eq!(Header::read(&[0; 36]), Err(Error::BadSignature));
+    assert_eq!(Header::read(&table[..38]), Err(Error::BadTableLength));
+    for (at, said) in [(3, Error::BadSignature), (4, Error::BadTableLength), (9, Error::BadChecksum), (38, Error::BadChecksum)] {
+        let mut damaged = table;
+        damaged[at] ^= 0x20;
+        assert_eq!(Header::read(&damaged), Err(said), "byte {at}");
+    }
+
+    let before = table;
+    assert_eq!(write_table(*b"dsdt", 7, &rest, &body, &mut table), Err(Error::BadSignature));
+    assert_eq!(write_table(*b"DSDT", 7, &rest, &[0; 29], &mut table), Err(Error::OutTooSmall));
+    assert_eq!(table, before);
+    assert_eq!(write_table(*b"DSDT", 7, &rest, &[0; 28], &mut table), Ok(64));
+    assert_eq!(Header::read(&table).map(|h| h.body.len()), Ok(28));
 }

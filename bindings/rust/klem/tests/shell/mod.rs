@@ -1,7 +1,7 @@
 //! klem over the bindings: what crates/klem does with a script, here with calls of this crate, so that recorded scripts can be run
 //! through the archive. Nothing here knows what an answer should be.
 use klem::{
-    check, is_digit_char, is_lead_name_char, is_name_char, name_string, pkg_length, raw_pkg_length, run, Ended, Error, Frame, Handle, LevelType, Path, PkgLength, Table,
+    check, is_digit_char, is_lead_name_char, is_name_char, name_string, pkg_length, raw_pkg_length, run, write_table, Ended, Error, Frame, Handle, Header, LevelType, Path, PkgLength, Table,
 };
 
 const MOST_LINE: usize = 200_000;
@@ -71,10 +71,11 @@ impl<M: AsRef<[u64]> + AsMut<[u64]>> Shell<M> {
             return Err(Stop::Wants(usage));
         }
         match w[0] {
-            b"pkg" | b"raw" | b"char" | b"name" | b"check" => of_bytes(w[0], &hex(w[1], MOST_BYTES)?),
+            b"table" | b"pkg" | b"raw" | b"char" | b"name" | b"check" => of_bytes(w[0], &hex(w[1], MOST_BYTES)?),
             b"fit" | b"still" => of_lengths(&w),
             b"seg" | b"components" => of_components(&w),
             b"text" => shown(Path::from_text(behind(line, w[0]))),
+            b"write-table" => written(&w),
             b"root" => shown(Ok(Path::root())),
             b"write" | b"normal" | b"parent" | b"kind" | b"resolve" => of_paths(&w),
             b"run" => ran(&w),
@@ -197,6 +198,11 @@ fn of_bytes(command: &[u8], given: &[u8]) -> Said {
             let (length, used) = pkg_length(given)?;
             Ok(format!("ok raw {} end {} used {}", length.raw_length, length.end_offset, used))
         }
+        b"table" => {
+            let h = Header::read(given)?;
+            let letters = h.signature.letters();
+            Ok(format!("ok {} revision {} body 36 to {}", String::from_utf8_lossy(&letters), h.revision, 36 + h.body.len()))
+        }
         b"raw" => {
             let (raw, used) = raw_pkg_length(given)?;
             Ok(format!("ok raw {raw} used {used}"))
@@ -211,6 +217,29 @@ fn of_bytes(command: &[u8], given: &[u8]) -> Said {
         }
         _ => ok(check(given)),
     }
+}
+
+// write-table SIG REV REST BODY ROOM: the numbers and the body before the two words of a fixed length
+fn written(w: &[&[u8]]) -> Said {
+    let revision = number(w[2])?;
+    let body = hex(w[4], MOST_BYTES)?;
+    let room = number(w[5])? as usize;
+    let revision = u8::try_from(revision).map_err(|_| Stop::Wrong("bad number"))?;
+    if room > MOST_BYTES {
+        return Err(Stop::Wrong("length over 100000"));
+    }
+    let letters = fixed::<4>(w[1], "wants 4 bytes")?;
+    let rest = fixed::<26>(w[3], "wants 26 bytes")?;
+    let mut out = vec![0; room];
+    let length = write_table(letters, revision, &rest, &body, &mut out)?;
+    Ok(format!("ok {}", out[..length].iter().map(|b| format!("{b:02X}")).collect::<String>()))
+}
+
+fn fixed<const N: usize>(word: &[u8], wants: &'static str) -> Result<[u8; N], Stop> {
+    if word.len() / 2 != N {
+        return Err(Stop::Wrong(wants));
+    }
+    <[u8; N]>::try_from(hex(word, N)?).map_err(|_| Stop::Wrong(wants))
 }
 
 // fit LENGTH RAW, still END LENGTH

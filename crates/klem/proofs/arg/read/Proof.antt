@@ -1,5 +1,5 @@
 -- `read` is safe: each callee tests its places.
--- It turns three times.
+-- It turns five times.
 use Prim.Native.Nat.{_-_}
 use borrow.Author.Needs.{needs}
 use Rattle.klem.proofs.arg.read.Statement.{statement}
@@ -9,7 +9,7 @@ abbrev Inv-loop : tie.InvT-loop
 Inv-loop usage line a₀ at₀ k₀ a at k = Unit {0}
 
 abbrev μ-loop : tie.MeasureT-loop
-μ-loop usage line a₀ at₀ k₀ a at k = 3 - k
+μ-loop usage line a₀ at₀ k₀ a at k = 5 - k
 
 pub read-spec : {M : Type 1} → statement M
 read-spec =

@@ -2,7 +2,7 @@
 use Rattle.path.specs.Normal.{alone, segmentPath}
 use Rattle.klem_c.specs.Result.{nothing}
 use Rattle.klem_c.specs.Paths.{klemFromNameSeg}
-use Rattle.klem_c.proofs.Results.{named, four, path-numbered}
+use Rattle.klem_c.proofs.Results.{named, path-numbered}
 use borrow.Author.Needs.{needs}
 use Rattle.klem_c.proofs.paths.klem_from_name_seg.Statement.{statement}
 use Rattle.klem_c.proofs.paths.klem_from_name_seg.Tie as tie
@@ -11,12 +11,12 @@ returns : tie.Need-returns
 unfolding klemFromNameSeg
 returns c =
     let at-tell-path = c .before .before .before .before in let at-path = at-tell-path .before in
-    let at-from-name-seg = at-path .before .before .before .before in let at-seg-in = at-from-name-seg .before in
-    let at-args = at-seg-in .before .before .before .before in
+    let at-from-name-seg = at-path .before .before .before .before in let at-four-in = at-from-name-seg .before in
+    let at-args = at-four-in .before .before .before .before in
     let a = at-args .args in
     named nothing _ (a .result .now) (a .out .now) (at-path .path .result) _ _ (alone (segmentPath (a .seg .now))) (at-tell-path .tell-path .ensures)
     (path-numbered (at-from-name-seg .from-name-seg .result .said)) (at-path .path .ensures)
-    (λ q. rw (at-seg-in .seg-in .ensures q, four) at (at-from-name-seg .from-name-seg .ensures))
+    (λ q. rw (at-four-in .four-in .ensures q) at (at-from-name-seg .from-name-seg .ensures))
 
 pub klem-from-name-seg-spec : {M : Type 1} → statement M
 klem-from-name-seg-spec =
