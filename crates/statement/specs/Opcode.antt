@@ -1,4 +1,5 @@
 -- The opcodes under the Rust's names (opcode.rs), and what each byte starts, as rows of tables: a further operator is a further row.
+use mathlib.Core.Path.{_≡_}
 use Prim.Native.Nat.{ℕ, _-_, _^_}
 use mathlib.Core.Bool.{Bool, false, cond}
 use mathlib.Core.List.{List, [], _∷_}
@@ -166,3 +167,7 @@ asStmt BadTerm = BadStmt
 -- what a byte starts as a statement: one of its own, or what it is as a term
 unfoldable pub stmtOp : ℕ → StmtOp
 stmtOp b = look stmtRows (asStmt (termOp b)) b
+
+-- a statement starts with the byte
+abbrev pub Starts : ℕ → Type 0
+Starts b = stmtOp b ≡ BadStmt → ⊥

@@ -240,7 +240,7 @@ fn statement_opcode(
         };
     }
     let u = units - 1;
-    let op = opcode::stmt_op(part[at]);
+    let op = opcode::begun_op(part[at]);
     match op {
         StmtOp::Simple(o) => plain(o, u, at + 1),
         StmtOp::Return => def_return(eval(part, at + 1, 16, set, val, w), u),

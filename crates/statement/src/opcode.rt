@@ -1,6 +1,6 @@
 // The opcodes of control blocks under the Rust's names (opcode.rs), and what each byte starts.
 ghost use mathlib.Core.Path.{_≡_};
-ghost use Rattle.statement.specs.Opcode.{isCell, asStmt, termOp, stmtOp};
+ghost use Rattle.statement.specs.Opcode.{isCell, asStmt, termOp, stmtOp, Starts};
 
 pub const NULL_NAME: u8 = 0x00;
 
@@ -176,6 +176,23 @@ pub(crate) fn stmt_op(b: u8) -> StmtOp
         DEF_IF_ELSE_OP => StmtOp::If,
         DEF_WHILE_OP => StmtOp::While,
         _ => as_stmt(term_op(b)),
+    }
+}
+
+// The same of a byte that starts a statement: what is none of its own is an expression, and its opcode is looked at once.
+pub(crate) fn begun_op(b: u8) -> StmtOp
+    requires { ⌜ Starts b ⌝ }
+    ensures { λ r. ⌜ r ≡ stmtOp b ⌝ }
+{
+    match b {
+        DEF_BREAK_OP => StmtOp::Simple(Plain::Break),
+        DEF_CONTINUE_OP => StmtOp::Simple(Plain::Continue),
+        DEF_BREAKPOINT_OP => StmtOp::Simple(Plain::BreakPoint),
+        DEF_NOOP_OP => StmtOp::Simple(Plain::Noop),
+        DEF_RETURN_OP => StmtOp::Return,
+        DEF_IF_ELSE_OP => StmtOp::If,
+        DEF_WHILE_OP => StmtOp::While,
+        _ => StmtOp::Expr,
     }
 }
 

@@ -48,7 +48,7 @@ use Rattle.statement.proofs.exec.while_out.Reads as while-out-reads
 use Rattle.statement.proofs.exec.pkg.Reads as pkg-reads
 use Rattle.statement.proofs.exec.plain.Reads as plain-reads
 use Rattle.statement.proofs.eval.term_arg.Reads as term-arg-reads
-use Rattle.statement.proofs.opcode.stmt_op.Reads as stmt-op-reads
+use Rattle.statement.proofs.opcode.begun_op.Reads as begun-op-reads
 use Rattle.statement.proofs.exec.+def_else+def_if_else+def_while+statement_opcode+term_list+turn+turns.{
   statement,
 }
@@ -129,7 +129,7 @@ abbrev def-while-claims : ℕ → def-while-lts.Claims
 def-while-claims t = (pkg-reads.Asked, pkg-reads.Learnt, turns-below t, turns.Post, finish-reads.Asked, finish-reads.Learnt)
 
 abbrev statement-opcode-claims : ℕ → statement-opcode-lts.Claims
-statement-opcode-claims t = (stmt-op-reads.Asked, stmt-op-reads.Learnt, plain-reads.Asked, plain-reads.Learnt, eval-reads.Asked, eval-reads.Learnt, def-return-reads.Asked, def-return-reads.Learnt, def-if-else-below t, def-if-else.Post, def-while-below t, def-while.Post, term-arg-reads.Asked, term-arg-reads.Learnt, dropped-reads.Asked, dropped-reads.Learnt)
+statement-opcode-claims t = (begun-op-reads.Asked, begun-op-reads.Learnt, plain-reads.Asked, plain-reads.Learnt, eval-reads.Asked, eval-reads.Learnt, def-return-reads.Asked, def-return-reads.Learnt, def-if-else-below t, def-if-else.Post, def-while-below t, def-while.Post, term-arg-reads.Asked, term-arg-reads.Learnt, dropped-reads.Asked, dropped-reads.Learnt)
 
 abbrev term-list-claims : ℕ → term-list-lts.Claims
 term-list-claims t = (statement-opcode-below t, statement-opcode.Post, finished-reads.Asked, finished-reads.Learnt)
@@ -261,28 +261,34 @@ statement-opcode-returns t c =
     runs.no-unit (a .left) (a .at) (a .part .now) (c .before .before .pre .1 .inside) (c .before .before .pre .1 .reads) (bits (a .w)) (framed (a .set .now) (a .val .now)) (a .units) (c .if1 .taken)
 
 -- an arm of the match on what the byte starts: what was read so, and what running it answers
-module _ (t : ℕ) (k : statement-opcode-lts.After-stmt-op (statement-opcode-claims t) (statement-opcode-at t) statement-opcode.Post) where
-  statement-acc : (o : StmtOp) → k .stmt-op .result ≡ o →
+module _ (t : ℕ) (k : statement-opcode-lts.After-begun-op (statement-opcode-claims t) (statement-opcode-at t) statement-opcode.Post) where
+  statement-acc : (o : StmtOp) → k .begun-op .result ≡ o →
       (let a = k .before .before .before .before .args in Accepts (stmtBy (readList (a .left - 1)) (getD (a .part .now) (a .at) 0) 0 (drop (a .at + 1) (a .part .now)) o))
-  statement-acc o q = let a = k .before .before .before .before .args in runs.op-acc (a .left) (a .at) (a .part .now) (k .before .before .before .before .pre .1 .inside) (k .before .before .before .before .pre .1 .reads) (k .stmt-op .result) o (k .stmt-op .ensures) q
+  statement-acc o q = let a = k .before .before .before .before .args in runs.op-acc (a .left) (a .at) (a .part .now) (k .before .before .before .before .pre .1 .inside) (k .before .before .before .before .pre .1 .reads) (k .begun-op .result) o (k .begun-op .ensures) q
 
-  statement-arm : (o : StmtOp) (x : Ran Frame Way) → k .stmt-op .result ≡ o →
+  statement-arm : (o : StmtOp) (x : Ran Frame Way) → k .begun-op .result ≡ o →
       (let a = k .before .before .before .before .args in let f = framed (a .set .now) (a .val .now) in
       x ≡ stepDo (bits (a .w)) (a .at) (stmtBy (readList (a .left - 1)) (getD (a .part .now) (a .at) 0) 0 (drop (a .at + 1) (a .part .now)) o) f (a .units - 1) →
       x ≡ stepOf (bits (a .w)) (a .at) (readStmt (a .left) 0 (drop (a .at) (a .part .now))) f (a .units))
   statement-arm o x q h =
       let a = k .before .before .before .before .args in
-      runs.run-arm (a .left) (a .at) (a .part .now) (k .before .before .before .before .pre .1 .inside) (k .before .before .before .before .pre .1 .reads) (k .stmt-op .result) o (k .stmt-op .ensures) q
+      runs.run-arm (a .left) (a .at) (a .part .now) (k .before .before .before .before .pre .1 .inside) (k .before .before .before .before .pre .1 .reads) (k .begun-op .result) o (k .begun-op .ensures) q
       (bits (a .w)) (framed (a .set .now) (a .val .now)) (a .units) x (k .before .before .if1 .left) h
 
-  return-acc : k .stmt-op .result ≡ Return → (let a = k .before .before .before .before .args in Accepts (readTerm depthLimit 0 (drop (a .at + 1) (a .part .now))))
+  return-acc : k .begun-op .result ≡ Return → (let a = k .before .before .before .before .args in Accepts (readTerm depthLimit 0 (drop (a .at + 1) (a .part .now))))
   return-acc q = let a = k .before .before .before .before .args in runs.ret-acc (bits (a .w)) (a .at) _ (framed (a .set .now) (a .val .now)) 0 (statement-acc Return q)
 
-  if-acc : k .stmt-op .result ≡ If → (let a = k .before .before .before .before .args in Accepts (readIf (readList (a .left - 1)) 0 (drop (a .at + 1) (a .part .now))))
+  if-acc : k .begun-op .result ≡ If → (let a = k .before .before .before .before .args in Accepts (readIf (readList (a .left - 1)) 0 (drop (a .at + 1) (a .part .now))))
   if-acc q = let a = k .before .before .before .before .args in runs.if-acc (bits (a .w)) (a .at) _ (framed (a .set .now) (a .val .now)) 0 (a .left - 1) (statement-acc If q)
 
-  while-acc : k .stmt-op .result ≡ While → (let a = k .before .before .before .before .args in Accepts (readHead (readList (a .left - 1)) 0 (drop (a .at + 1) (a .part .now))))
+  while-acc : k .begun-op .result ≡ While → (let a = k .before .before .before .before .args in Accepts (readHead (readList (a .left - 1)) 0 (drop (a .at + 1) (a .part .now))))
   while-acc q = let a = k .before .before .before .before .args in runs.while-acc (bits (a .w)) (a .at) _ (framed (a .set .now) (a .val .now)) 0 (a .left - 1) (statement-acc While q)
+
+statement-opcode-begun-op-requires : (t : ℕ) → statement-opcode-lts.Need-begun-op-requires (statement-opcode-claims t) (statement-opcode-at t) statement-opcode.Post
+statement-opcode-begun-op-requires t c κs =
+    let a = c .before .before .before .args in
+    let p = c .before .before .before .pre .1 in
+    λ q. runs.op-acc (a .left) (a .at) (a .part .now) (p .inside) (p .reads) _ _ refl q
 
 statement-opcode-eval-requires : (t : ℕ) → statement-opcode-lts.Need-eval-requires (statement-opcode-claims t) (statement-opcode-at t) statement-opcode.Post
 statement-opcode-eval-requires t c κs =
@@ -505,7 +511,7 @@ pub +def-else+def-if-else+def-while+statement-opcode+term-list+turn+turns-spec :
     (λ t. def-while-lts.spec (def-while-claims t) (def-while-at t) def-while.Post (def-while-pkg-requires t) (λ c. search needs) (λ c. search needs)
     (def-while-turns-requires t) (λ c κs. search needs) (def-while-returns t))
     (λ t. statement-opcode-lts.spec (statement-opcode-claims t) (statement-opcode-at t) statement-opcode.Post (statement-opcode-returns t) (λ c. search needs)
-    (λ c. search needs) (λ c κs. search needs) (λ c. search needs) (λ c. search needs) (λ c κs. search needs) (λ c. search needs) (λ c. search needs)
+    (λ c. search needs) (statement-opcode-begun-op-requires t) (λ c. search needs) (λ c. search needs) (λ c κs. search needs) (λ c. search needs) (λ c. search needs)
     (statement-opcode-eval-requires t) (λ c κs. search needs) (λ c. search needs) (λ c. search needs) (λ c. search needs)
     (statement-opcode-def-if-else-requires t) (λ c. search needs) (λ c. search needs) (λ c. search needs) (statement-opcode-def-while-requires t)
     (λ c. search needs) (statement-opcode-term-arg-requires t) (λ c κs. search needs) (λ c. search needs) (statement-opcode-returns-2 t)
