@@ -43,7 +43,12 @@ unfolding addLevelCall
 returns-2 c =
     let ws = c .before .before .before .before .before .before .before .before .before .before .before .before .args .table .now in
     c .before .before .add-level .ensures ∙ ap (λ (n : ℕ). left limits ws (done (addLevel limits (decode limits ws) (take (c .before .before .before .before .before .before .before .before .before .keyed .result .count) (c .before .before .before .before .before .before .before .before .before .keyed .result .keys)) n))) (c .before .before .before .type-number .ensures)
-    ∙ ap (left limits ws) (call-given limits ws (settledKeys componentLimit (c .before .before .before .before .before .before .before .before .before .before .before .before .args .path)) (c .before .before .before .before .before .before .before .before .before .keyed .result) (c .before .before .before .before .before .before .before .before .before .keyed .ensures) (λ t p. done (addLevel limits t p (typeNumber (c .before .before .before .before .before .before .before .before .before .before .before .before .args .typ)))) (c .before .before .before .before .before .before .before .enum-told .given .1))
+    ∙ ap (left limits ws) (call-given limits ws
+    (settledKeys componentLimit (c .before .before .before .before .before .before .before .before .before .before .before .before .args .path))
+    (c .before .before .before .before .before .before .before .before .before .keyed .result)
+    (c .before .before .before .before .before .before .before .before .before .keyed .ensures)
+    (λ t p. done (addLevel limits t p (typeNumber (c .before .before .before .before .before .before .before .before .before .before .before .before .args .typ))))
+    (c .before .before .before .before .before .before .before .enum-told .given .1))
 
 pub add-level-spec : {M : Type 1} → statement M
 add-level-spec =

@@ -41,7 +41,12 @@ unfolding addValueCall
 returns-2 c =
     let ws = c .before .before .before .before .before .before .before .before .before .before .before .args .table .now in
     c .before .before .add-value .ensures
-    ∙ ap (left limits ws) (call-given limits ws (settledKeys componentLimit (c .before .before .before .before .before .before .before .before .before .before .before .args .path)) (c .before .before .before .before .before .before .before .before .keyed .result) (c .before .before .before .before .before .before .before .before .keyed .ensures) (λ t p. addValue limits t p (c .before .before .before .before .before .before .before .before .before .before .before .args .value)) (c .before .before .before .before .before .before .enum-told .given .1))
+    ∙ ap (left limits ws) (call-given limits ws
+    (settledKeys componentLimit (c .before .before .before .before .before .before .before .before .before .before .before .args .path))
+    (c .before .before .before .before .before .before .before .before .keyed .result)
+    (c .before .before .before .before .before .before .before .before .keyed .ensures)
+    (λ t p. addValue limits t p (c .before .before .before .before .before .before .before .before .before .before .before .args .value))
+    (c .before .before .before .before .before .before .enum-told .given .1))
 
 pub add-value-spec : {M : Type 1} → statement M
 add-value-spec =

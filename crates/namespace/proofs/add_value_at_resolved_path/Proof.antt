@@ -41,7 +41,12 @@ unfolding addValueResolvedCall
 returns-2 c =
     let ws = c .before .before .before .before .before .before .before .before .before .before .before .args .table .now in
     c .before .before .add-value .ensures
-    ∙ ap (left limits ws) (call-given limits ws (resolvedKeys componentLimit (c .before .before .before .before .before .before .before .before .before .before .before .args .path) (c .before .before .before .before .before .before .before .before .before .before .before .args .scope)) (c .before .before .before .before .before .before .before .before .keyed-in .result) (c .before .before .before .before .before .before .before .before .keyed-in .ensures) (λ t p. addValue limits t p (c .before .before .before .before .before .before .before .before .before .before .before .args .value)) (c .before .before .before .before .before .before .enum-told .given .1))
+    ∙ ap (left limits ws) (call-given limits ws
+    (resolvedKeys componentLimit (c .before .before .before .before .before .before .before .before .before .before .before .args .path) (c .before .before .before .before .before .before .before .before .before .before .before .args .scope))
+    (c .before .before .before .before .before .before .before .before .keyed-in .result)
+    (c .before .before .before .before .before .before .before .before .keyed-in .ensures)
+    (λ t p. addValue limits t p (c .before .before .before .before .before .before .before .before .before .before .before .args .value))
+    (c .before .before .before .before .before .before .enum-told .given .1))
 
 pub add-value-at-resolved-path-spec : {M : Type 1} → statement M
 add-value-at-resolved-path-spec =

@@ -41,7 +41,11 @@ unfolding removeLevelCall
 returns-2 c =
     let ws = c .before .before .before .before .before .before .before .before .before .before .before .args .table .now in
     c .before .before .remove-level .ensures
-    ∙ ap (left limits ws) (call-given limits ws (settledKeys componentLimit (c .before .before .before .before .before .before .before .before .before .before .before .args .path)) (c .before .before .before .before .before .before .before .before .keyed .result) (c .before .before .before .before .before .before .before .before .keyed .ensures) (λ t p. done (removeLevel t p)) (c .before .before .before .before .before .before .enum-told .given .1))
+    ∙ ap (left limits ws) (call-given limits ws
+    (settledKeys componentLimit (c .before .before .before .before .before .before .before .before .before .before .before .args .path))
+    (c .before .before .before .before .before .before .before .before .keyed .result)
+    (c .before .before .before .before .before .before .before .before .keyed .ensures) (λ t p. done (removeLevel t p))
+    (c .before .before .before .before .before .before .enum-told .given .1))
 
 pub remove-level-spec : {M : Type 1} → statement M
 remove-level-spec =

@@ -10,7 +10,11 @@ use Rattle.namespace.proofs.inner.keyed_in.Tie as tie
 returns : tie.Need-returns
 returns c =
     ready-keys limits (c .before .before .before .before .before .args .table .now) _ (c .keys-in .result) (sym (c .before .before .before .well-formed .ensures) ∙ c .before .before .if1 .taken)
-    (path-keys componentLimit (joined componentLimit (c .before .before .before .before .before .args .path) (c .before .before .before .before .before .args .scope)) (joined-keeps componentLimit (c .before .before .before .before .before .args .path) (c .before .before .before .before .before .args .scope)) (c .before .resolve .result) (c .before .resolve .ensures) (c .keys-in .result) (c .keys-in .ensures) _ (joined-keys componentLimit (c .before .before .before .before .before .args .path) (c .before .before .before .before .before .args .scope)))
+    (path-keys componentLimit
+    (joined componentLimit (c .before .before .before .before .before .args .path) (c .before .before .before .before .before .args .scope))
+    (joined-keeps componentLimit (c .before .before .before .before .before .args .path) (c .before .before .before .before .before .args .scope))
+    (c .before .resolve .result) (c .before .resolve .ensures) (c .keys-in .result) (c .keys-in .ensures) _
+    (joined-keys componentLimit (c .before .before .before .before .before .args .path) (c .before .before .before .before .before .args .scope)))
 
 returns-2 : tie.Need-returns-2
 returns-2 c =

@@ -38,8 +38,13 @@ slice-aggregate-add-alias-2 c =
     sym (length-take-le (r .count) (r .keys) (omega (arith, c .before .before .before .before .before .before .before .keys-against2 .ensures .given (c .before .before .before .before .before .enum-told2 .given .1) .short)))
 
 add-alias-requires : tie.Need-add-alias-requires
-add-alias-requires c κs =
-    (c .before .before .before .before .before .before .before .before .before .before .before .before .pre .0, c .before .before .before .before .before .before .before .before .before .before .keys-against .ensures .given (c .before .before .before .before .before .before .before .before .enum-told .given .1) .keyed, c .before .before .before .before .before .before .before .keys-against2 .ensures .given (c .before .before .before .before .before .enum-told2 .given .1) .keyed)
+add-alias-requires c κs = (
+  c .before .before .before .before .before .before .before .before .before .before .before .before .pre .0,
+  c .before .before .before .before .before .before .before .before .before .before .keys-against .ensures .given
+      (c .before .before .before .before .before .before .before .before .enum-told .given .1) .keyed,
+  c .before .before .before .before .before .before .before .keys-against2 .ensures .given
+      (c .before .before .before .before .before .enum-told2 .given .1) .keyed,
+)
 
 returns : tie.Need-returns
 returns c =
@@ -59,7 +64,10 @@ returns-3 c =
     let ws = c .before .before .before .before .before .before .before .before .before .before .before .before .before .before .before .args .table .now in
     let e = c .before .before .before .before .before .before .before .before .before .before .before .before .before .keys-against .ensures .given (c .before .before .before .before .before .before .before .before .before .before .before .enum-told .given .1) .is in
     let f = c .before .before .before .before .before .before .before .before .before .before .keys-against2 .ensures .given (c .before .before .before .before .before .before .before .before .enum-told2 .given .1) .is in
-    c .before .before .add-alias .ensures ∙ ap (left limits ws) (alias-both limits (decode limits ws) (pathOf (c .before .before .before .before .before .before .before .before .before .before .before .before .before .before .before .args .path)) (pathOf (c .before .before .before .before .before .before .before .before .before .before .before .before .before .before .before .args .scope)) (pathOf (c .before .before .before .before .before .before .before .before .before .before .before .before .before .before .before .args .target)) _ _ e f)
+    c .before .before .add-alias .ensures ∙ ap (left limits ws) (alias-both limits (decode limits ws)
+    (pathOf (c .before .before .before .before .before .before .before .before .before .before .before .before .before .before .before .args .path))
+    (pathOf (c .before .before .before .before .before .before .before .before .before .before .before .before .before .before .before .args .scope))
+    (pathOf (c .before .before .before .before .before .before .before .before .before .before .before .before .before .before .before .args .target)) _ _ e f)
 
 pub resolve-alias-spec : {M : Type 1} → statement M
 resolve-alias-spec =

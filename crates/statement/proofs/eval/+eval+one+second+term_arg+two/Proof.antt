@@ -302,8 +302,10 @@ two-eval-requires t c κs =
 two-second-requires : (t : ℕ) → two-lts.Need-second-requires (two-claims t) (two-at t) two.Post
 two-second-requires t c κs =
     let a = c .before .before .before .before .before .before .before .before .before .args in
-    let z = c .before .before .before .a2 .given in
-    (omega (arith, c .before .before .before .before .before .before .before .before .before .pre .0), (c .before .before .before .before .before .before .before .before .before .pre .1 .0, evals.two-second-acc (a .left) (a .at) (a .part .now) (a .d) (bits (a .w)) _ _ _ (c .before .before .before .before .before .eval .ensures) (c .before .before .before .before .before .before .before .before .before .pre .1 .1) (z .0 .0) (z .0 .1 .0) (z .1)))
+    let z = c .before .before .before .a2 .given in (
+      omega (arith, c .before .before .before .before .before .before .before .before .before .pre .0),
+      (c .before .before .before .before .before .before .before .before .before .pre .1 .0, evals.two-second-acc (a .left) (a .at) (a .part .now) (a .d) (bits (a .w)) _ _ _ (c .before .before .before .before .before .eval .ensures) (c .before .before .before .before .before .before .before .before .before .pre .1 .1) (z .0 .0) (z .0 .1 .0) (z .1)),
+    )
 
 two-returns : (t : ℕ) → two-lts.Need-returns (two-claims t) (two-at t) two.Post
 two-returns t c =

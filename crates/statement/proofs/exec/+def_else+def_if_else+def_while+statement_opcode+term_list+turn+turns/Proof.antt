@@ -156,13 +156,26 @@ def-else-pkg-requires t c κs =
 def-else-term-list-requires : (t : ℕ) → def-else-lts.Need-term-list-requires (def-else-claims t) (def-else-at t) def-else.Post
 def-else-term-list-requires t c κs =
     let a = c .before .before .before .before .before .before .before .before .before .before .args in
-    let acc = runs.else-acc (a .left) (a .at) (a .part .now) (c .before .before .before .before .before .before .before .before .if1 .left) (c .before .before .before .before .before .before .if2 .left) (c .before .before .before .before .before .before .before .before .before .before .pre .1 .2) (spanned (c .before .before .before .before .before .pkg .result)) (c .before .before .before .before .before .pkg .ensures .is) in
-    (omega (arith, c .before .before .before .before .before .before .before .before .before .before .pre .0), (runs.part-short (a .part .now) (a .at + 1 + c .before .before .before .before .before .pkg .result .raw - (a .at + 1 + c .before .before .before .before .before .pkg .result .used)) (a .at + 1 + c .before .before .before .before .before .pkg .result .used) (c .before .before .before .before .before .before .before .before .before .before .pre .1 .1), acc))
+    let acc = runs.else-acc (a .left) (a .at) (a .part .now) (c .before .before .before .before .before .before .before .before .if1 .left) (c .before .before .before .before .before .before .if2 .left)
+    (c .before .before .before .before .before .before .before .before .before .before .pre .1 .2) (spanned
+    (c .before .before .before .before .before .pkg .result)) (c .before .before .before .before .before .pkg .ensures .is) in (
+      omega (arith, c .before .before .before .before .before .before .before .before .before .before .pre .0),
+      (
+        runs.part-short (a .part .now)
+            (a .at + 1 + c .before .before .before .before .before .pkg .result .raw - (a .at + 1 + c .before .before .before .before .before .pkg .result .used))
+            (a .at + 1 + c .before .before .before .before .before .pkg .result .used)
+            (c .before .before .before .before .before .before .before .before .before .before .pre .1 .1),
+        acc,
+      ),
+    )
 
 def-else-returns-3 : (t : ℕ) → def-else-lts.Need-returns-3 (def-else-claims t) (def-else-at t) def-else.Post
 def-else-returns-3 t c =
     let a = c .before .before .before .before .before .before .before .before .before .before .before .args in
-    runs.else-ran (a .left) (a .at) (a .part .now) (c .before .before .before .before .before .before .before .before .before .if1 .left) (c .before .before .before .before .before .before .before .if2 .left) (c .before .before .before .before .before .before .before .before .before .before .before .pre .1 .2) (spanned (c .before .before .before .before .before .before .pkg .result)) (c .before .before .before .before .before .before .pkg .ensures .is) (bits (a .w)) _ (a .units) _
+    runs.else-ran (a .left) (a .at) (a .part .now) (c .before .before .before .before .before .before .before .before .before .if1 .left) (c .before .before .before .before .before .before .before .if2 .left)
+    (c .before .before .before .before .before .before .before .before .before .before .before .pre .1 .2) (spanned
+    (c .before .before .before .before .before .before .pkg .result)) (c .before .before .before .before .before .before .pkg .ensures .is) (bits (a .w)) _ (a .units)
+    _
     (c .term-list .ensures)
 
 def-if-else-pkg-requires : (t : ℕ) → def-if-else-lts.Need-pkg-requires (def-if-else-claims t) (def-if-else-at t) def-if-else.Post
@@ -183,13 +196,20 @@ module _ (t : ℕ) (k : def-if-else-lts.After-known-told2 (def-if-else-claims t)
   if-body =
       let a = k .before .before .before .before .before .before .before .before .before .before .args in
       let z = k .before .v2 .given in
-      let b = runs.if-body (a .left) (a .at) (a .part .now) (k .before .before .before .before .before .before .before .before .before .before .pre .1 .2) (spanned (k .before .before .before .before .before .before .before .before .pkg .result)) (k .before .before .before .before .before .before .before .before .pkg .ensures .is) (bits (a .w)) _ _ (a .units) _ (k .before .before .before .eval .ensures) (z .0 .0) (z .0 .1 .0) (z .1) in
+      let b = runs.if-body (a .left) (a .at) (a .part .now) (k .before .before .before .before .before .before .before .before .before .before .pre .1 .2) (spanned
+      (k .before .before .before .before .before .before .before .before .pkg .result)) (k .before .before .before .before .before .before .before .before .pkg .ensures .is)
+      (bits (a .w)) _ _ (a .units) _ (k .before .before .before .eval .ensures) (z .0 .0) (z .0 .1 .0) (z .1) in
       (b .0, runs.part-short (a .part .now) (a .at + k .before .before .before .before .before .before .before .before .pkg .result .raw - z .0 .1 .0) (z .0 .1 .0) (k .before .before .before .before .before .before .before .before .before .before .pre .1 .1), b .1)
 
   if-rest : (let a = k .before .before .before .before .before .before .before .before .before .before .args in let e = a .at + k .before .before .before .before .before .before .before .before .pkg .result .raw in (e ≤ length (a .part .now)) × (length (a .part .now) ≤ blockLimit) × Accepts (readElse (readList (a .left)) 0 (drop e (a .part .now))))
   if-rest =
-      let a = k .before .before .before .before .before .before .before .before .before .before .args in
-      (k .before .before .before .before .before .before .before .before .pkg .ensures .fits, k .before .before .before .before .before .before .before .before .before .before .pre .1 .1, runs.if-else-acc (a .left) (a .at) (a .part .now) (k .before .before .before .before .before .before .before .before .before .before .pre .1 .2) (spanned (k .before .before .before .before .before .before .before .before .pkg .result)) (k .before .before .before .before .before .before .before .before .pkg .ensures .is))
+      let a = k .before .before .before .before .before .before .before .before .before .before .args in (
+        k .before .before .before .before .before .before .before .before .pkg .ensures .fits,
+        k .before .before .before .before .before .before .before .before .before .before .pre .1 .1,
+        runs.if-else-acc (a .left) (a .at) (a .part .now) (k .before .before .before .before .before .before .before .before .before .before .pre .1 .2)
+            (spanned (k .before .before .before .before .before .before .before .before .pkg .result))
+            (k .before .before .before .before .before .before .before .before .pkg .ensures .is),
+      )
 
 def-if-else-else-end-requires : (t : ℕ) → def-if-else-lts.Need-else-end-requires (def-if-else-claims t) (def-if-else-at t) def-if-else.Post
 def-if-else-else-end-requires t c κs =
@@ -218,7 +238,9 @@ def-if-else-term-list-requires t c κs =
 def-if-else-returns : (t : ℕ) → def-if-else-lts.Need-returns (def-if-else-claims t) (def-if-else-at t) def-if-else.Post
 def-if-else-returns t c =
     let a = c .before .before .before .before .before .before .before .before .before .before .args in
-    runs.if-missing (a .left) (a .at) (a .part .now) (c .before .before .before .before .before .before .before .before .before .before .pre .1 .2) (spanned (c .before .before .before .before .before .before .before .before .pkg .result)) (c .before .before .before .before .before .before .before .before .pkg .ensures .is) (bits (a .w)) _ _ (a .units) _ (c .before .before .before .eval .ensures) _ (c .before .v .given .1)
+    runs.if-missing (a .left) (a .at) (a .part .now) (c .before .before .before .before .before .before .before .before .before .before .pre .1 .2) (spanned
+    (c .before .before .before .before .before .before .before .before .pkg .result)) (c .before .before .before .before .before .before .before .before .pkg .ensures .is)
+    (bits (a .w)) _ _ (a .units) _ (c .before .before .before .eval .ensures) _ (c .before .v .given .1)
 
 def-if-else-returns-2 : (t : ℕ) → def-if-else-lts.Need-returns-2 (def-if-else-claims t) (def-if-else-at t) def-if-else.Post
 def-if-else-returns-2 t c =
@@ -226,7 +248,9 @@ def-if-else-returns-2 t c =
     let z = c .before .before .before .before .before .before .before .v2 .given in
     let e = c .before .before .before .before .before .else-end in
     let r = c .before .def-else in
-    runs.if-zero (a .left) (a .at) (a .part .now) (c .before .before .before .before .before .before .before .before .before .before .before .before .before .before .before .before .pre .1 .2) (spanned (c .before .before .before .before .before .before .before .before .before .before .before .before .before .before .pkg .result)) (c .before .before .before .before .before .before .before .before .before .before .before .before .before .before .pkg .ensures .is) (bits (a .w)) _ _ (a .units) _ (c .before .before .before .before .before .before .before .before .before .eval .ensures)
+    runs.if-zero (a .left) (a .at) (a .part .now) (c .before .before .before .before .before .before .before .before .before .before .before .before .before .before .before .before .pre .1 .2)
+    (spanned (c .before .before .before .before .before .before .before .before .before .before .before .before .before .before .pkg .result)) (c .before .before .before .before .before .before .before .before .before .before .before .before .before .before .pkg .ensures .is)
+    (bits (a .w)) _ _ (a .units) _ (c .before .before .before .before .before .before .before .before .before .eval .ensures)
     (z .0 .0) (z .0 .1 .0) (z .1) (e .result) (e .ensures) _ _ (runs.finished-at _ (e .result) (r .result) (c .finish .result) (c .finish .ensures)) (c .before .before .before .before .if1 .taken) (r .ensures)
 
 def-if-else-returns-3 : (t : ℕ) → def-if-else-lts.Need-returns-3 (def-if-else-claims t) (def-if-else-at t) def-if-else.Post
