@@ -109,7 +109,15 @@ returns-3 c =
     same-told (sym (name-whole componentLimit (c .before .before .before .before .before .before .before .before .before .before .resolved .result .name) len (x .0 .path))) refl
     ∙ ap (told componentLimit) (sym (once-found limits (decode limits (a .table .now)) (pathOf (a .path)) (pathOf (a .scope)) (pathOf (c .before .before .before .before .before .before .before .before .before .before .resolved .result .name)) (c .before .found2 .given .0 .0 .0) (x .1)
     (sym (ap handleSaid (c .before .found2 .given .1)) ∙ c .before .before .before .look-up .ensures
-    ∙ ap (lookUp (decode limits (a .table .now))) (keys-are componentLimit (resolved componentLimit (pathOf (c .before .before .before .before .before .before .before .before .before .before .before .before .args .path)) (pathOf (c .before .before .before .before .before .before .before .before .before .before .before .before .args .scope))) (against-keeps componentLimit (c .before .before .before .before .before .before .before .before .before .before .before .before .args .path) (c .before .before .before .before .before .before .before .before .before .before .before .before .args .scope) (c .before .before .before .before .before .before .before .before .before .before .before .before .pre .1) (c .before .before .before .before .before .before .before .before .before .before .before .before .pre .2 .path)) (c .before .before .before .before .before .before .before .before .before .before .resolved .result) (c .before .before .before .before .before .before .before .before .before .before .resolved .ensures) (c .before .before .before .before .before .before .before .before .before .keys-in .result) (c .before .before .before .before .before .before .before .before .before .keys-in .ensures) _ refl (c .before .before .before .before .before .before .before .enum-told .given .1)))))
+    ∙ ap (lookUp (decode limits (a .table .now))) (keys-are componentLimit (resolved componentLimit
+    (pathOf (c .before .before .before .before .before .before .before .before .before .before .before .before .args .path))
+    (pathOf (c .before .before .before .before .before .before .before .before .before .before .before .before .args .scope))) (against-keeps componentLimit
+    (c .before .before .before .before .before .before .before .before .before .before .before .before .args .path)
+    (c .before .before .before .before .before .before .before .before .before .before .before .before .args .scope)
+    (c .before .before .before .before .before .before .before .before .before .before .before .before .pre .1)
+    (c .before .before .before .before .before .before .before .before .before .before .before .before .pre .2 .path)) (c .before .before .before .before .before .before .before .before .before .before .resolved .result)
+    (c .before .before .before .before .before .before .before .before .before .before .resolved .ensures) (c .before .before .before .before .before .before .before .before .before .keys-in .result)
+    (c .before .before .before .before .before .before .before .before .before .keys-in .ensures) _ refl (c .before .before .before .before .before .before .before .enum-told .given .1)))))
 
 pub search-once-spec : {M : Type 1} → statement M
 search-once-spec =

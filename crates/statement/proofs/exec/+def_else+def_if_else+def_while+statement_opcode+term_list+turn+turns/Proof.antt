@@ -259,7 +259,9 @@ def-if-else-returns-3 t c =
     let z = c .before .before .before .before .before .before .before .before .v2 .given in
     let e = c .before .before .before .before .before .before .else-end in
     let r = c .before .term-list in
-    runs.if-true (a .left) (a .at) (a .part .now) (c .before .before .before .before .before .before .before .before .before .before .before .before .before .before .before .before .before .pre .1 .2) (spanned (c .before .before .before .before .before .before .before .before .before .before .before .before .before .before .before .pkg .result)) (c .before .before .before .before .before .before .before .before .before .before .before .before .before .before .before .pkg .ensures .is) (bits (a .w)) _ _ (a .units) _ (c .before .before .before .before .before .before .before .before .before .before .eval .ensures)
+    runs.if-true (a .left) (a .at) (a .part .now) (c .before .before .before .before .before .before .before .before .before .before .before .before .before .before .before .before .before .pre .1 .2)
+    (spanned (c .before .before .before .before .before .before .before .before .before .before .before .before .before .before .before .pkg .result)) (c .before .before .before .before .before .before .before .before .before .before .before .before .before .before .before .pkg .ensures .is)
+    (bits (a .w)) _ _ (a .units) _ (c .before .before .before .before .before .before .before .before .before .before .eval .ensures)
     (z .0 .0) (z .0 .1 .0) (z .1) (e .result) (e .ensures) _ _ (runs.finished-at _ (e .result) (r .result) (c .finish2 .result) (c .finish2 .ensures)) (c .before .before .before .before .before .if1 .left) (r .ensures)
 
 def-while-pkg-requires : (t : ℕ) → def-while-lts.Need-pkg-requires (def-while-claims t) (def-while-at t) def-while.Post
@@ -479,7 +481,9 @@ turn-returns-4 : (t : ℕ) → turn-lts.Need-returns-4 (turn-claims t) (turn-at 
 turn-returns-4 t c =
     let a = c .before .before .before .before .before .before .before .before .before .before .before .before .before .args in
     let z = c .before .before .before .before .before .before .v2 .given in
-    runs.turn-true (a .left) (a .end) (a .at) (a .part .now) (c .before .before .before .before .before .before .before .before .before .before .before .before .before .pre .1 .2) (bits (a .w)) _ _ (a .units) (a .units - 1) (omega (arith, c .before .before .before .before .before .before .before .before .before .before .before .if1 .left)) _ (c .before .before .before .before .before .before .before .before .eval .ensures)
+    runs.turn-true (a .left) (a .end) (a .at) (a .part .now) (c .before .before .before .before .before .before .before .before .before .before .before .before .before .pre .1 .2)
+    (bits (a .w)) _ _ (a .units) (a .units - 1) (omega
+    (arith, c .before .before .before .before .before .before .before .before .before .before .before .if1 .left)) _ (c .before .before .before .before .before .before .before .before .eval .ensures)
     (z .0 .0) (z .0 .1 .0) (z .1) (c .before .before .before .before .if2 .left) _ (c .term-list .ensures)
 
 -- the turns from here on are those from the start
