@@ -9,8 +9,8 @@ use Rattle.name_object.specs.Memory.{zeros, nameOf, componentOf, components, pa
 use Rattle.name_object.specs.Name.{byteAt, char, segment, segments, runAt, namePath, carets, prefixOf, spelled, judged, nameString}
 use Rattle.path.specs.Normal.{step, walk, upright, limited, normal}
 use Rattle.path.specs.Text.{padded, reading, afterRoot, textPath, fromText}
-use Rattle.statement.specs.Opcode.{look, termOp, stmtOp}
-use Rattle.statement.specs.Reader.{readOne, readTwo, readTerm, readPackage, readHead, readElse, readIf, listBy, readStmt, readBlock}
+use Rattle.grammar.specs.Opcode.{look, termOp, stmtOp}
+use Rattle.grammar.specs.Reader.{readOne, readTwo, readTerm, readPackage, readHead, readElse, readIf, listBy, readStmt, readBlock}
 use Rattle.statement.specs.Frames.{fresh}
 use Rattle.statement.specs.Meaning.{eval, turns, doStmt, doStmts}
 use Rattle.cases.specs.Cases.{cases, allSaid, allExpected}

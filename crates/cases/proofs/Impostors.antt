@@ -18,15 +18,16 @@ use Rattle.namespace.specs.declared.LevelType.the-variants.{Scope}
 use Rattle.namespace.specs.Calls.{addLevelCall, editLeft}
 use Rattle.namespace.specs.declared.SearchAnswer.{SearchAnswer}
 use Rattle.namespace.specs.Search.{searchCall, searchSaid, searchTold}
-use Rattle.statement.specs.declared.CheckAnswer.{CheckAnswer}
+use Rattle.grammar.specs.declared.CheckAnswer.{CheckAnswer}
 use Rattle.statement.specs.declared.RunAnswer.{RunAnswer}
-use Rattle.statement.specs.Tree.{Stmts}
-use Rattle.statement.specs.Opcode.{look, termOp, stmtOp}
-use Rattle.statement.specs.Reader.{readOne, readTwo, readTerm, readPackage, readHead, readElse, readIf, listBy, readStmt, readBlock}
+use Rattle.grammar.specs.Tree.{Stmts}
+use Rattle.grammar.specs.Opcode.{look, termOp, stmtOp}
+use Rattle.grammar.specs.Reader.{readOne, readTwo, readTerm, readPackage, readHead, readElse, readIf, listBy, readStmt, readBlock}
 use Rattle.statement.specs.Frames.{fresh}
 use Rattle.statement.specs.Meaning.{eval, turns, doStmt, doStmts}
-use Rattle.statement.specs.Promise.{Checked, checkSaid, HasRun, runSaid}
-use Rattle.statement.proofs.Theorems.{derives-what-reads}
+use Rattle.grammar.specs.Promise.{Checked, checkSaid}
+use Rattle.statement.specs.Promise.{HasRun, runSaid}
+use Rattle.grammar.proofs.Theorems.{derives-what-reads}
 use Rattle.cases.specs.Cases.{typed, after, runShown, paperTable, run}
 use Rattle.cases.proofs.Search.{a-is-written, search-hit}
 

@@ -17,7 +17,7 @@ use Rattle.table.specs.Search.{Hit}
 use Rattle.namespace.specs.declared.LevelType.the-variants.{Scope}
 use Rattle.namespace.specs.Calls.{newCall, addLevelCall, addValueCall}
 use Rattle.namespace.specs.Search.{searchCall}
-use Rattle.statement.specs.Reader.{readBlock}
+use Rattle.grammar.specs.Reader.{readBlock}
 use Rattle.statement.specs.Frames.{fresh}
 use Rattle.statement.specs.Meaning.{width}
 use Rattle.statement.specs.Meaning.{Ended, finished, returned, breakOut, continueOut, Outcome, mean}

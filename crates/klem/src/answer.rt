@@ -2,6 +2,7 @@
 use crate::rows;
 use crate::said;
 use crate::said::Said;
+use grammar::CheckAnswer;
 use header::HeaderAnswer;
 use header::Signature;
 use name_object::NameAnswer;
@@ -18,7 +19,6 @@ use path::PathSaid;
 use pkg_length::LengthAnswer;
 use pkg_length::PkgAnswer;
 use pkg_length::RawAnswer;
-use statement::CheckAnswer;
 
 pub fn pkg(a: PkgAnswer) -> Said {
     match a {

@@ -24,7 +24,7 @@ pub fn on_bytes(k: usize, a: Args, n: usize, buffer: &[u8]) -> Said {
         rows::NAME => answer::name(name_object::name_string(given)),
         rows::SEG => seg(given),
         rows::TABLE => answer::table(header::read(given)),
-        _ => answer::check(statement::check(given)),
+        _ => answer::check(grammar::check(given)),
     }
 }
 

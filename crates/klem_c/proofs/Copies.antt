@@ -9,7 +9,7 @@ use native.Mathlib.Omega.{arith}
 use lib.ListN.{length, getD, set, take, drop, replicate, length-set, length-drop, length-append, length-map, List·getD-map, drop-of-length-le}
 use borrow.Rule.Slice.PartMut.{putMid, post-is}
 use mir.Val.{boolByte}
-use Rattle.statement.specs.Grammar.{cells}
+use Rattle.grammar.specs.Grammar.{cells}
 use Rattle.klem_c.specs.Result.{flag}
 use Rattle.klem_c.specs.Frames.{frameSize, isSet, flagsAt, frameWords}
 use Rattle.statement.specs.declared.frame.Frame.{Frame}

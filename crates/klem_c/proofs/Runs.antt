@@ -6,13 +6,14 @@ use Prim.Native.Nat.{ℕ}
 use native.Mathlib.Omega.{arith}
 use lib.ListN.{getD}
 use Rattle.pkg_length.specs.Refusal.{Answer, gives, refuses}
-use Rattle.statement.specs.Tree.{Stmts}
-use Rattle.statement.specs.Reader.{readBlock}
-use Rattle.statement.proofs.Theorems.{derives-what-reads}
-use Rattle.statement.specs.declared.CheckAnswer.{CheckAnswer}
+use Rattle.grammar.specs.Tree.{Stmts}
+use Rattle.grammar.specs.Reader.{readBlock}
+use Rattle.grammar.proofs.Theorems.{derives-what-reads}
+use Rattle.grammar.specs.declared.CheckAnswer.{CheckAnswer}
 use Rattle.statement.specs.declared.RunAnswer.{RunAnswer}
 use Rattle.statement.specs.Meaning.{Outcome}
-use Rattle.statement.specs.Promise.{Verdict, Checked, checkSaid, endSaid, HasRun}
+use Rattle.grammar.specs.Promise.{Verdict, Checked, checkSaid}
+use Rattle.statement.specs.Promise.{endSaid, HasRun}
 use Rattle.klem_c.specs.Result.{badSlice, resultWords, resultOf, valued, nothing, sized, After, leaves, wordsOf}
 use Rattle.klem_c.specs.Frames.{frameSize, fitsFrame, frameAt, frameWords}
 use Rattle.klem_c.specs.Blocks.{KlemCheck, KlemRun, runWords}

@@ -5,7 +5,7 @@ use mathlib.Core.List.{List, [], _++_, map}
 use lib.Dec.{eqb, ltb}
 use lib.ListN.{take, drop}
 use Rattle.pkg_length.specs.Refusal.{gives, refuses}
-use Rattle.statement.specs.Grammar.{cells}
+use Rattle.grammar.specs.Grammar.{cells}
 use Rattle.statement.specs.Frames.{fresh, held, wrote}
 use Rattle.statement.specs.declared.frame.Frame.{Frame}
 use Rattle.klem_c.specs.Result.{badCell, resultWords, resultOf, valued, one, flag, sized, After, leaves, answers}

@@ -12,7 +12,7 @@ use statement::frame::Frame;
 pub extern "C" fn klem_check(block: &[u8], result: &mut [u64]) -> u64
     ensures { λ r. ⌜ KlemCheck (now (block .entry)) (now (result .entry)) (record { number = r; result = now (result .exit); lent = [] }) ⌝ }
 {
-    reply::tell(result, true, reply::verdict(statement::check(block)))
+    reply::tell(result, true, reply::verdict(grammar::check(block)))
 }
 
 #[no_mangle]

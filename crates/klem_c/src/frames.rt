@@ -3,7 +3,7 @@ ghost use mathlib.Core.Path.{_≡_};
 ghost use mathlib.Core.Bool.{true, _&&_, cond};
 ghost use mathlib.Core.List.{_++_, map};
 ghost use lib.ListN.{length, drop};
-ghost use Rattle.statement.specs.Grammar.{cells};
+ghost use Rattle.grammar.specs.Grammar.{cells};
 ghost use Rattle.klem_c.specs.Result.{flag, sized};
 ghost use Rattle.klem_c.specs.Frames.{frameSize, flagsAt, frameAt, frameWords};
 use crate::slices;

@@ -11,25 +11,27 @@ use borrow.Author.Tests.{le-leb, leb-true, ne-eqb}
 use Rattle.pkg_length.specs.Refusal.{Answer, gives, refuses, blockLimit}
 use Rattle.pkg_length.specs.Little.{little}
 use Rattle.statement.specs.declared.frame.Frame.{Frame}
+use Rattle.statement.specs.declared.exec.Span.{Span}
 use Rattle.statement.specs.declared.eval.Value.{Value}
 use Rattle.statement.specs.declared.eval.Value.the-variants.{Num, Missing}
-use Rattle.statement.specs.declared.opcode.StepOp.{StepOp}
-use Rattle.statement.specs.declared.opcode.OneOp.{OneOp}
-use Rattle.statement.specs.declared.opcode.TwoOp.{TwoOp}
-use Rattle.statement.specs.declared.opcode.Dest.{Dest}
-use Rattle.statement.specs.declared.opcode.Dest.the-variants.{Nowhere, ToCell, ToTarget}
-use Rattle.statement.specs.declared.opcode.TermOp.{TermOp}
-use Rattle.statement.specs.declared.opcode.TermOp.the-variants.{Bytes, Cell, Step, One, Two}
-use Rattle.statement.specs.Opcode.{isCell, termOp}
-use Rattle.statement.specs.Tree.{cell, Target, Term, const, read, step}
-use Rattle.statement.specs.Reader.{Read, took, reads, thenRead, readBytes, readPlace, readDest, Operand, operand, Operands, before, readOne, readTwo, termBy, readTerm}
+use Rattle.grammar.specs.declared.opcode.StepOp.{StepOp}
+use Rattle.grammar.specs.declared.opcode.OneOp.{OneOp}
+use Rattle.grammar.specs.declared.opcode.TwoOp.{TwoOp}
+use Rattle.grammar.specs.declared.opcode.Dest.{Dest}
+use Rattle.grammar.specs.declared.opcode.Dest.the-variants.{Nowhere, ToCell, ToTarget}
+use Rattle.grammar.specs.declared.opcode.TermOp.{TermOp}
+use Rattle.grammar.specs.declared.opcode.TermOp.the-variants.{Bytes, Cell, Step, One, Two}
+use Rattle.grammar.specs.Opcode.{isCell, termOp}
+use Rattle.grammar.specs.Tree.{cell, Target, Term, const, read, step}
+use Rattle.grammar.specs.Reader.{Read, took, reads, thenRead, readBytes, readPlace, readDest, Operand, operand, Operands, before, readOne, readTwo, termBy, readTerm, readPackage}
 use Rattle.statement.specs.Frames.{wrote}
 use Rattle.statement.specs.Meaning.{unary, binary, frames, Ran, ran, put, eval}
-use Rattle.statement.specs.Lent.{Accepts, TermReady, valueSaid, evAt, evaledBy, evOne, evTwo, evSecond, evPut}
-use Rattle.statement.proofs.Answers.{Takes, then-by, pick-ok}
-use Rattle.statement.proofs.Terms.{term-sound, cell-sound}
-use Rattle.statement.proofs.Reaches.{here, term-is-by}
-use Rattle.statement.proofs.Places.{dest-any, one-any, two-any}
+use Rattle.grammar.specs.Said.{Accepts}
+use Rattle.statement.specs.Lent.{spanned, Spans, TermReady, valueSaid, evAt, evaledBy, evOne, evTwo, evSecond, evPut}
+use Rattle.grammar.proofs.Answers.{Takes, then-by, pick-ok}
+use Rattle.grammar.proofs.Terms.{term-sound, cell-sound}
+use Rattle.grammar.proofs.Reaches.{here, term-is-by, package-in}
+use Rattle.grammar.proofs.Places.{dest-any, one-any, two-any}
 
 pub acc-ok : {A X : Type 0} (R : Answer (Read A)) → Accepts R → ((a : A) (k : ℕ) → R ≡ reads a k → X) → X
 acc-ok (gives (took a k)) h g = g a k refl
@@ -44,6 +46,10 @@ acc-then (refuses n p) f h = h
 
 pub acc-same : {A : Type 0} {R S : Answer A} → R ≡ S → Accepts R → Accepts S
 acc-same {A} e h = subst (λ (z : Answer A). Accepts z) e h
+
+-- a package that was read lies in its part
+pub spans : (at : ℕ) (s : List ℕ) (r : Span) → gives (spanned r) ≡ readPackage 0 (drop at s) → at ≤ length s → Spans s at r
+spans at s r e h = let k = package-in 0 at s (r .raw) (r .used) e h in record { is = e; own = k .1; fits = k .2 }
 
 -- ## What an evaluation's answer says
 

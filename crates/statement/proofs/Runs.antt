@@ -17,21 +17,22 @@ use Rattle.statement.specs.declared.exec.Out.{Out}
 use Rattle.statement.specs.declared.exec.Out.the-variants.{Finished, Returned, BreakOut, ContinueOut, Spent, Unset}
 use Rattle.statement.specs.declared.exec.Done.{Done}
 use Rattle.statement.specs.declared.exec.Moved.{Moved}
-use Rattle.statement.specs.declared.opcode.Plain.{Plain}
-use Rattle.statement.specs.declared.opcode.Plain.the-variants.{Break, Continue, BreakPoint, Noop}
-use Rattle.statement.specs.declared.opcode.StmtOp.{StmtOp}
-use Rattle.statement.specs.Opcode.{stmtOp}
-use Rattle.statement.specs.Tree.{Term, Stmt, plain, return, ifElse, while, expr, Stmts, cons}
-use Rattle.statement.specs.Grammar.{depthLimit}
-use Rattle.statement.specs.Reader.{Read, took, reads, thenRead, readTerm, readPackage, Head, head, whileOf, readHead, elseBy, readElse, readIf, stmtBy, listBy, readStmt, readList}
+use Rattle.grammar.specs.declared.opcode.Plain.{Plain}
+use Rattle.grammar.specs.declared.opcode.Plain.the-variants.{Break, Continue, BreakPoint, Noop}
+use Rattle.grammar.specs.declared.opcode.StmtOp.{StmtOp}
+use Rattle.grammar.specs.Opcode.{stmtOp}
+use Rattle.grammar.specs.Tree.{Term, Stmt, plain, return, ifElse, while, expr, Stmts, cons}
+use Rattle.grammar.specs.Grammar.{depthLimit}
+use Rattle.grammar.specs.Reader.{Read, took, reads, thenRead, readTerm, readPackage, Head, head, whileOf, readHead, elseBy, readElse, readIf, stmtBy, listBy, readStmt, readList}
 use Rattle.statement.specs.Meaning.{frames, Ran, ran, thenDo, spend, eval, Ended, finished, returned, breakOut, continueOut, goOn, plainEnd, again, over, afterTurn, oneTurn, turns, doStmt, doStmts}
-use Rattle.statement.specs.Said.{upTo}
-use Rattle.statement.specs.Lent.{Accepts, StmtReady, valueSaid, evaledBy, outSaid, Way, on, stop, stepAt, stepF, turnAt, ranOf, stepOf, stepDo, whileDo, bodyFrom, TurnsOk, turnOf, turnsBy, isFinished, turnsOn, whileOut, movedTo, plainTo, returnTo, dropTo}
-use Rattle.statement.proofs.Answers.{Takes, then-by, and-by, pick-ok}
-use Rattle.statement.proofs.Statements.{stmt-sound}
-use Rattle.statement.proofs.Reaches.{here, stmt-is-by, list-eq}
-use Rattle.statement.proofs.Packages.{package-any}
-use Rattle.statement.proofs.Places.{term-any, list-any, else-any, head-any, if-any}
+use Rattle.grammar.specs.Said.{upTo}
+use Rattle.grammar.specs.Said.{Accepts}
+use Rattle.statement.specs.Lent.{StmtReady, valueSaid, evaledBy, outSaid, Way, on, stop, stepAt, stepF, turnAt, ranOf, stepOf, stepDo, whileDo, bodyFrom, TurnsOk, turnOf, turnsBy, isFinished, turnsOn, whileOut, movedTo, plainTo, returnTo, dropTo}
+use Rattle.grammar.proofs.Answers.{Takes, then-by, and-by, pick-ok}
+use Rattle.grammar.proofs.Statements.{stmt-sound}
+use Rattle.grammar.proofs.Reaches.{here, stmt-is-by, list-eq}
+use Rattle.grammar.proofs.Packages.{package-any}
+use Rattle.grammar.proofs.Places.{term-any, list-any, else-any, head-any, if-any}
 use Rattle.statement.proofs.Units.{leftOf, term-left, list-left, turns-next, turn-less, with-units}
 use Rattle.statement.proofs.Evals.{acc-ok, is-acc, acc-then, acc-same, ev-num, ev-missing}
 

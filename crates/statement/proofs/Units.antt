@@ -5,7 +5,7 @@ use Prim.Native.Nat.{ℕ, zero, suc, _≤_, _<_}
 use native.Mathlib.Omega.{arith}
 use lib.Dec.{eqb}
 use Rattle.pkg_length.specs.Refusal.{Answer, gives, refuses}
-use Rattle.statement.specs.Tree.{Target, nowhere, to, Term, const, read, step, one, two, Stmt, plain, return, ifElse, while, expr, Stmts, nil, cons}
+use Rattle.grammar.specs.Tree.{Target, nowhere, to, Term, const, read, step, one, two, Stmt, plain, return, ifElse, while, expr, Stmts, nil, cons}
 use Rattle.statement.specs.Meaning.{Memory, Ran, ran, thenDo, spend, Ended, finished, returned, breakOut, continueOut, goOn, Go, again, over, goOf, afterTurn, oneTurn, turns, saved, fetch, put, eval, doStmt, doStmts}
 
 unfoldable pub leftOf : {S A : Type 0} → Ran S A → ℕ

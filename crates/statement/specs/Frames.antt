@@ -6,7 +6,7 @@ use Rattle.pkg_length.specs.Refusal.{Answer, gives, refuses, refused}
 use Rattle.statement.specs.declared.frame.Frame.{Frame}
 use Rattle.statement.specs.declared.frame.CellAnswer.{CellAnswer}
 use Rattle.statement.specs.declared.frame.CellAnswer.the-variants.{Number, Refused}
-use Rattle.statement.specs.Grammar.{cells}
+use Rattle.grammar.specs.Grammar.{cells}
 
 -- every cell unset
 unfoldable pub fresh : Frame

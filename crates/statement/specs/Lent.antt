@@ -7,10 +7,10 @@ use lib.ListN.{length, take, drop}
 use Rattle.pkg_length.specs.Refusal.{Answer, gives, refuses, blockLimit}
 use Rattle.pkg_length.specs.Pkg.{Raw}
 use Rattle.statement.specs.declared.frame.Frame.{Frame}
-use Rattle.statement.specs.declared.opcode.Plain.{Plain}
-use Rattle.statement.specs.declared.opcode.Plain.the-variants.{Break, Continue, BreakPoint, Noop}
-use Rattle.statement.specs.declared.opcode.OneOp.{OneOp}
-use Rattle.statement.specs.declared.opcode.TwoOp.{TwoOp}
+use Rattle.grammar.specs.declared.opcode.Plain.{Plain}
+use Rattle.grammar.specs.declared.opcode.Plain.the-variants.{Break, Continue, BreakPoint, Noop}
+use Rattle.grammar.specs.declared.opcode.OneOp.{OneOp}
+use Rattle.grammar.specs.declared.opcode.TwoOp.{TwoOp}
 use Rattle.statement.specs.declared.number.Width.{Width}
 use Rattle.statement.specs.declared.number.Width.the-variants.{Bits32, Bits64}
 use Rattle.statement.specs.declared.exec.Span.{Span}
@@ -20,19 +20,15 @@ use Rattle.statement.specs.declared.exec.Out.{Out}
 use Rattle.statement.specs.declared.exec.Out.the-variants.{Finished, Returned, BreakOut, ContinueOut, Spent, Unset}
 use Rattle.statement.specs.declared.exec.Done.{Done}
 use Rattle.statement.specs.declared.exec.Moved.{Moved}
-use Rattle.statement.specs.Tree.{Target, Term, Stmt, Stmts}
-use Rattle.statement.specs.Reader.{Read, took, Operand, operand, Operands, oneOf, twoOf, Head, whileOf, readTerm, readPackage, readStmt, readList}
+use Rattle.grammar.specs.Tree.{Target, Term, Stmt, Stmts}
+use Rattle.grammar.specs.Said.{Accepts}
+use Rattle.grammar.specs.Reader.{Read, took, Operand, operand, Operands, oneOf, twoOf, Head, whileOf, readTerm, readPackage, readStmt, readList}
 use Rattle.statement.specs.Meaning.{frames, binary, Ran, ran, thenDo, spend, put, eval, Ended, finished, returned, breakOut, continueOut, Go, goOf, oneTurn, turns, doStmt, doStmts}
 
 -- how many bits numbers have
 abbrev pub bits : Width → ℕ
 bits Bits32 = 32
 bits Bits64 = 64
-
--- something was read
-abbrev pub Accepts : {A : Type 0} → Answer A → Type 0
-Accepts (gives a) = Unit {0}
-Accepts (refuses n p) = ⊥
 
 abbrev pub spanned : Span → Raw
 spanned r = record { raw = r .raw; used = r .used }

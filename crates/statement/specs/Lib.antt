@@ -1,9 +1,4 @@
-pub mod Opcode
-pub mod Tree
-pub mod Grammar
-pub mod Reader
-pub mod Said
-pub mod Promise
 pub mod Frames
 pub mod Meaning
 pub mod Lent
+pub mod Promise

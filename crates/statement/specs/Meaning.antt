@@ -5,15 +5,15 @@ use lib.Dec.{ltb, eqb}
 use lib.Bits.{bitAnd}
 use Rattle.pkg_length.specs.Refusal.{Answer, gives, refuses}
 use Rattle.statement.specs.declared.frame.Frame.{Frame}
-use Rattle.statement.specs.declared.opcode.Plain.{Plain}
-use Rattle.statement.specs.declared.opcode.Plain.the-variants.{Break, Continue, BreakPoint, Noop}
-use Rattle.statement.specs.declared.opcode.StepOp.{StepOp}
-use Rattle.statement.specs.declared.opcode.StepOp.the-variants.{Increment, Decrement}
-use Rattle.statement.specs.declared.opcode.OneOp.{OneOp}
-use Rattle.statement.specs.declared.opcode.OneOp.the-variants.{Store, LNot}
-use Rattle.statement.specs.declared.opcode.TwoOp.{TwoOp}
-use Rattle.statement.specs.declared.opcode.TwoOp.the-variants.{Add, And, LAnd, LOr, LEqual, LGreater, LLess}
-use Rattle.statement.specs.Tree.{Place, cell, Target, nowhere, to, Term, const, read, step, one, two, Stmt, plain, return, ifElse, while, expr, Stmts, nil, cons}
+use Rattle.grammar.specs.declared.opcode.Plain.{Plain}
+use Rattle.grammar.specs.declared.opcode.Plain.the-variants.{Break, Continue, BreakPoint, Noop}
+use Rattle.grammar.specs.declared.opcode.StepOp.{StepOp}
+use Rattle.grammar.specs.declared.opcode.StepOp.the-variants.{Increment, Decrement}
+use Rattle.grammar.specs.declared.opcode.OneOp.{OneOp}
+use Rattle.grammar.specs.declared.opcode.OneOp.the-variants.{Store, LNot}
+use Rattle.grammar.specs.declared.opcode.TwoOp.{TwoOp}
+use Rattle.grammar.specs.declared.opcode.TwoOp.the-variants.{Add, And, LAnd, LOr, LEqual, LGreater, LLess}
+use Rattle.grammar.specs.Tree.{Place, cell, Target, nowhere, to, Term, const, read, step, one, two, Stmt, plain, return, ifElse, while, expr, Stmts, nil, cons}
 use Rattle.statement.specs.Frames.{held, wrote}
 
 -- ## Numbers

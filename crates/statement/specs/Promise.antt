@@ -1,40 +1,17 @@
--- What the public functions promise.
+-- What the run promises.
 use mathlib.Core.Path.{_≡_}
 use mathlib.Core.Bool.{true, false}
 use mathlib.Core.List.{List}
-use Prim.Native.Nat.{ℕ, _≤_}
-use lib.ListN.{length}
-use Rattle.pkg_length.specs.Refusal.{Answer, gives, refuses, refused, blockLimit}
-use Rattle.statement.specs.declared.CheckAnswer.{CheckAnswer}
+use Prim.Native.Nat.{ℕ}
+use Rattle.pkg_length.specs.Refusal.{Answer, gives, refuses, refused}
+use Rattle.grammar.specs.Tree.{Stmts}
+use Rattle.grammar.specs.Reader.{readBlock}
+use Rattle.grammar.specs.Promise.{Derives}
 use Rattle.statement.specs.declared.End.{End}
 use Rattle.statement.specs.declared.End.the-variants.{Finished, Returned, BreakOut, ContinueOut}
 use Rattle.statement.specs.declared.RunAnswer.{RunAnswer}
 use Rattle.statement.specs.declared.frame.Frame.{Frame}
-use Rattle.statement.specs.Tree.{Stmts}
-use Rattle.statement.specs.Grammar.{depthLimit, DStmts}
-use Rattle.statement.specs.Reader.{readBlock}
 use Rattle.statement.specs.Meaning.{width, Ended, finished, returned, breakOut, continueOut, Outcome, mean}
-
--- the grammar derives the block, as this tree, within the limits
-pub record Derives (s : List ℕ) (tree : Stmts) : Type 0 where
-  pub short : length s ≤ blockLimit
-  pub derived : DStmts depthLimit tree s
-
--- what is said of a block: nothing against it, or the refusal
-pub data Verdict : Type 0 where
-  accepted : Verdict
-
-abbrev pub checkSaid : CheckAnswer → Answer Verdict
-checkSaid CheckAnswer.Accepted = gives accepted
-checkSaid (CheckAnswer.Refused e) = refused e
-
--- the check accepts exactly the blocks that the grammar derives; any other it refuses as `readBlock` does
-pub record Checked (s : List ℕ) (r : CheckAnswer) : Type 0 where
-  pub derived : (t : Stmts) → Derives s t → r ≡ CheckAnswer.Accepted
-  pub reading : r ≡ CheckAnswer.Accepted → (t : Stmts) × Derives s t
-  pub refusal : (n p : ℕ) → readBlock s ≡ refuses n p → checkSaid r ≡ refuses n p
-
--- ## The run
 
 abbrev pub endSaid : End → Answer Ended
 endSaid Finished = gives finished

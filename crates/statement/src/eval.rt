@@ -1,22 +1,23 @@
 // Evaluating a term that was read. The frame is lent, as its two arrays, so that nothing of it is copied.
 use crate::number;
 use crate::number::Width;
-use crate::opcode;
-use crate::opcode::Dest;
-use crate::opcode::OneOp;
-use crate::opcode::StepOp;
-use crate::opcode::TermOp;
-use crate::opcode::TwoOp;
+use grammar::opcode;
+use grammar::opcode::Dest;
+use grammar::opcode::OneOp;
+use grammar::opcode::StepOp;
+use grammar::opcode::TermOp;
+use grammar::opcode::TwoOp;
 ghost use mathlib.Core.Path.{_≡_};
 ghost use Prim.Native.Nat.{_≤_, _<_};
 ghost use lib.ListN.{length, drop};
 ghost use Rattle.pkg_length.specs.Refusal.{blockLimit};
-ghost use Rattle.statement.specs.Grammar.{cells};
-ghost use Rattle.statement.specs.Tree as tree;
-ghost use Rattle.statement.specs.Reader.{readDest, readOne, readTwo, readTerm};
+ghost use Rattle.grammar.specs.Grammar.{cells};
+ghost use Rattle.grammar.specs.Tree as tree;
+ghost use Rattle.grammar.specs.Reader.{readDest, readOne, readTwo, readTerm};
 ghost use Rattle.statement.specs.Frames.{wrote};
 ghost use Rattle.statement.specs.Meaning.{frames, eval};
-ghost use Rattle.statement.specs.Lent.{bits, Accepts, TermReady, framed, evIn, evAt, evaledBy, evOne, evTwo, evSecond, evPut};
+ghost use Rattle.grammar.specs.Said.{Accepts};
+ghost use Rattle.statement.specs.Lent.{bits, TermReady, framed, evIn, evAt, evaledBy, evOne, evTwo, evSecond, evPut};
 
 // A term's number and where reading goes on, or the unset cell that was read.
 pub enum Value {

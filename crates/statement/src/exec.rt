@@ -3,18 +3,20 @@ use crate::eval::Value;
 use crate::eval::eval;
 use crate::eval::term_arg;
 use crate::number::Width;
-use crate::opcode;
-use crate::opcode::Plain;
-use crate::opcode::StmtOp;
+use grammar::opcode;
+use grammar::opcode::Plain;
+use grammar::opcode::StmtOp;
 use pkg_length::PkgAnswer;
 ghost use mathlib.Core.Path.{_≡_};
 ghost use Prim.Native.Nat.{_≤_, _<_};
 ghost use lib.ListN.{length, drop};
 ghost use Rattle.pkg_length.specs.Refusal.{blockLimit, gives};
-ghost use Rattle.statement.specs.Grammar.{depthLimit};
-ghost use Rattle.statement.specs.Reader.{readTerm, readPackage, readHead, readElse, readIf, readStmt, readList};
-ghost use Rattle.statement.specs.Said.{upTo};
-ghost use Rattle.statement.specs.Lent.{bits, Accepts, Spans, StmtReady, framed, ranIn, stepIn, turnIn, ranOf, stepOf, stepDo, whileDo, TurnsOk, turnOf, turnsBy, isFinished, turnsOn, whileOut, movedTo, plainTo, returnTo, dropTo};
+ghost use Rattle.grammar.specs.Opcode.{stmtOp, Starts};
+ghost use Rattle.grammar.specs.Grammar.{depthLimit};
+ghost use Rattle.grammar.specs.Reader.{readTerm, readPackage, readHead, readElse, readIf, readStmt, readList};
+ghost use Rattle.grammar.specs.Said.{upTo};
+ghost use Rattle.grammar.specs.Said.{Accepts};
+ghost use Rattle.statement.specs.Lent.{bits, Spans, StmtReady, framed, ranIn, stepIn, turnIn, ranOf, stepOf, stepDo, whileDo, TurnsOk, turnOf, turnsBy, isFinished, turnsOn, whileOut, movedTo, plainTo, returnTo, dropTo};
 
 // How a statement or a list ended (parser.rs: Propagate).
 pub enum Out {
@@ -188,6 +190,23 @@ fn else_end(part: &[u8], at: usize, left: usize) -> usize
     at + 1 + p.raw
 }
 
+// What a byte that starts a statement starts: what is none of its own is an expression, and its opcode is looked at once.
+fn begun_op(b: u8) -> StmtOp
+    requires { ⌜ Starts b ⌝ }
+    ensures { λ r. ⌜ r ≡ stmtOp b ⌝ }
+{
+    match b {
+        opcode::DEF_BREAK_OP => StmtOp::Simple(Plain::Break),
+        opcode::DEF_CONTINUE_OP => StmtOp::Simple(Plain::Continue),
+        opcode::DEF_BREAKPOINT_OP => StmtOp::Simple(Plain::BreakPoint),
+        opcode::DEF_NOOP_OP => StmtOp::Simple(Plain::Noop),
+        opcode::DEF_RETURN_OP => StmtOp::Return,
+        opcode::DEF_IF_ELSE_OP => StmtOp::If,
+        opcode::DEF_WHILE_OP => StmtOp::While,
+        _ => StmtOp::Expr,
+    }
+}
+
 pub(crate) fn term_list(
     part: &[u8],
     left: usize,
@@ -240,7 +259,7 @@ fn statement_opcode(
         };
     }
     let u = units - 1;
-    let op = opcode::begun_op(part[at]);
+    let op = begun_op(part[at]);
     match op {
         StmtOp::Simple(o) => plain(o, u, at + 1),
         StmtOp::Return => def_return(eval(part, at + 1, 16, set, val, w), u),

@@ -1,38 +1,17 @@
-// Control blocks (statement.rs): the check of a block, and its run.
+// Control blocks (statement.rs): the run of a block that the grammar derives.
 use crate::exec::Out;
 use crate::frame::Frame;
 use crate::number::Width;
+use grammar::CheckAnswer;
 use pkg_length::AmlError;
 ghost use mathlib.Core.Path.{_≡_};
 ghost use Rattle.statement.specs.Lent.{outSaid};
-ghost use Rattle.statement.specs.Promise.{Checked, HasRun, endSaid};
+ghost use Rattle.statement.specs.Promise.{HasRun, endSaid};
 
 mod eval;
 mod exec;
 pub mod frame;
 mod number;
-mod opcode;
-mod read;
-mod term;
-
-pub enum CheckAnswer {
-    Accepted,
-    Refused(AmlError),
-}
-
-// Whether a block is well formed: the grammar derives it, within the limits.
-pub fn check(block: &[u8]) -> CheckAnswer
-    ensures { λ r. ⌜ Checked (now (block .entry)) r ⌝ }
-{
-    if 65536 < block.len() {
-        return CheckAnswer::Refused(AmlError::BlockTooLong);
-    }
-    let r = read::term_list(block, 0, 16);
-    if r.0 == term::NEXT {
-        return CheckAnswer::Accepted;
-    }
-    CheckAnswer::Refused(term::refusal(r))
-}
 
 // How a run ended.
 pub enum End {
@@ -55,7 +34,7 @@ pub struct RunAnswer {
 pub fn run(block: &[u8], frame: Frame, budget: u64) -> RunAnswer
     ensures { λ r. ⌜ HasRun (now (block .entry)) frame budget r ⌝ }
 {
-    let v = check(block);
+    let v = grammar::check(block);
     match v {
         CheckAnswer::Refused(e) => RunAnswer {
             began: false,

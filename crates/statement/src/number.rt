@@ -1,7 +1,7 @@
 // What the operators work out, on numbers of 32 or 64 bits.
-use crate::opcode::OneOp;
-use crate::opcode::StepOp;
-use crate::opcode::TwoOp;
+use grammar::opcode::OneOp;
+use grammar::opcode::StepOp;
+use grammar::opcode::TwoOp;
 ghost use mathlib.Core.Path.{_≡_};
 ghost use mathlib.Core.Bool.{not};
 ghost use Prim.Native.Nat.{_%_, _^_};

@@ -4,8 +4,8 @@ use mathlib.Core.List.{List}
 use Prim.Native.Nat.{ℕ, _≤_}
 use Rattle.pkg_length.specs.Refusal.{Answer}
 use Rattle.statement.specs.declared.frame.Frame.{Frame}
-use Rattle.statement.specs.Grammar.{depthLimit}
-use Rattle.statement.specs.Reader.{readList}
+use Rattle.grammar.specs.Grammar.{depthLimit}
+use Rattle.grammar.specs.Reader.{readList}
 use Rattle.statement.specs.Meaning.{width, Ended, ran}
 use Rattle.statement.specs.Lent.{ranOf}
 use Rattle.statement.proofs.Units.{leftOf}

@@ -2,7 +2,7 @@
 use mathlib.Core.Path.{_∙_, ap}
 use mathlib.Core.Bool.{_&&_, cond}
 use lib.Dec.{ltb}
-use Rattle.statement.specs.Grammar.{cells}
+use Rattle.grammar.specs.Grammar.{cells}
 use Rattle.statement.specs.declared.frame.Frame.{Frame}
 use Rattle.klem_c.specs.Result.{wordsOf, sized, resultWords}
 use Rattle.klem_c.specs.Frames.{frameWords, frameSize, klemFrameSet}

@@ -6,7 +6,7 @@ use mathlib.Core.Bool.{false}
 use Prim.Native.Nat.{_-_, _≤_}
 use lib.ListN.{take, drop, replicate, set}
 use borrow.Author.Needs.{needs}
-use Rattle.statement.specs.Grammar.{cells}
+use Rattle.grammar.specs.Grammar.{cells}
 use Rattle.klem_c.specs.Frames.{flagsAt}
 use Rattle.klem_c.proofs.Copies.{flagged, flagged-all}
 use Rattle.klem_c.proofs.frames.flags_in.Statement.{statement}

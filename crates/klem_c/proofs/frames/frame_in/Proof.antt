@@ -1,7 +1,7 @@
 -- The flags are those of the first words, and the numbers are a copy of the others.
 use mathlib.Core.Path.{_∙_}
 use borrow.Author.Tests.{eqb-true}
-use Rattle.statement.specs.Grammar.{cells}
+use Rattle.grammar.specs.Grammar.{cells}
 use Rattle.klem_c.proofs.Copies.{tail-of}
 use borrow.Author.Needs.{needs}
 use Rattle.klem_c.proofs.frames.frame_in.Statement.{statement}

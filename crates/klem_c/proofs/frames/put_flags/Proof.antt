@@ -6,7 +6,7 @@ use Prim.Native.Nat.{_-_, _≤_}
 use native.Mathlib.Omega.{arith}
 use lib.ListN.{length-set, length, take, drop, set}
 use borrow.Author.Needs.{needs}
-use Rattle.statement.specs.Grammar.{cells}
+use Rattle.grammar.specs.Grammar.{cells}
 use Rattle.klem_c.specs.Result.{flag}
 use Rattle.klem_c.specs.Frames.{frameSize}
 use Rattle.klem_c.proofs.Copies.{unflagged, unflagged-all}

@@ -2,7 +2,7 @@
 use mathlib.Core.Path.{_≡_}
 use lib.ListN.{length}
 use borrow.Author.Tests.{eq-eqb, ne-eqb}
-use Rattle.statement.specs.Grammar.{cells}
+use Rattle.grammar.specs.Grammar.{cells}
 use Rattle.klem_c.proofs.Copies.{put-frame}
 use borrow.Author.Needs.{needs}
 use Rattle.klem_c.proofs.frames.put_frame.Statement.{statement}

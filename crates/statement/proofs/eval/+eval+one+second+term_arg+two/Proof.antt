@@ -3,14 +3,15 @@ use mathlib.Core.Path.{_≡_, sym, _∙_}
 use Prim.Native.Nat.{ℕ, _<_, _≤_, _+_, _-_, _*_}
 use lib.ListN.{length, drop, getD}
 use Rattle.statement.specs.declared.frame.Frame.{Frame}
-use Rattle.statement.specs.declared.opcode.StepOp.{StepOp}
-use Rattle.statement.specs.declared.opcode.TermOp.{TermOp}
-use Rattle.statement.specs.declared.opcode.TermOp.the-variants.{Bytes, Step}
-use Rattle.statement.specs.Reader.{Read, termBy, readTerm}
+use Rattle.grammar.specs.declared.opcode.StepOp.{StepOp}
+use Rattle.grammar.specs.declared.opcode.TermOp.{TermOp}
+use Rattle.grammar.specs.declared.opcode.TermOp.the-variants.{Bytes, Step}
+use Rattle.grammar.specs.Reader.{Read, termBy, readTerm}
 use Rattle.statement.specs.Meaning as meaning
 use Rattle.statement.specs.Meaning.{frames, Ran}
-use Rattle.statement.specs.Lent.{bits, Accepts, framed, evaledBy}
-use Rattle.statement.proofs.Tables.{is-cell, op-cell, op-bytes}
+use Rattle.grammar.specs.Said.{Accepts}
+use Rattle.statement.specs.Lent.{bits, framed, evaledBy}
+use Rattle.grammar.proofs.Tables.{is-cell, op-cell, op-bytes}
 use Rattle.statement.proofs.Evals as evals
 use borrow.Author.Needs.{needs}
 use native.Mathlib.Omega.{arith}
@@ -39,8 +40,8 @@ use Rattle.statement.proofs.eval.wide.Reads as wide-reads
 use Rattle.statement.proofs.number.binary.Reads as binary-reads
 use Rattle.statement.proofs.number.unary.Reads as unary-reads
 use Rattle.statement.proofs.number.wrapped.Reads as wrapped-reads
-use Rattle.statement.proofs.opcode.is_cell.Reads as is-cell-reads
-use Rattle.statement.proofs.opcode.term_op.Reads as term-op-reads
+use Rattle.grammar.proofs.opcode.is_cell.Reads as is-cell-reads
+use Rattle.grammar.proofs.opcode.term_op.Reads as term-op-reads
 use Rattle.statement.proofs.eval.+eval+one+second+term_arg+two.{statement}
 use Rattle.statement.proofs.eval.+eval+one+second+term_arg+two.Tie.{close}
 

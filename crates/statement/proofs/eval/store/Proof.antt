@@ -2,10 +2,11 @@
 use mathlib.Core.Path.{subst}
 use mathlib.Core.List.{[]}
 use lib.ListN.{drop, getD}
-use Rattle.statement.specs.declared.opcode.Dest.{Dest}
-use Rattle.statement.specs.Reader.{readDest}
-use Rattle.statement.specs.Lent.{Accepts, framed}
-use Rattle.statement.proofs.Tables.{is-cell}
+use Rattle.grammar.specs.declared.opcode.Dest.{Dest}
+use Rattle.grammar.specs.Reader.{readDest}
+use Rattle.grammar.specs.Said.{Accepts}
+use Rattle.statement.specs.Lent.{framed}
+use Rattle.grammar.proofs.Tables.{is-cell}
 use Rattle.statement.proofs.Evals.{cell-inside, cell-byte, dest-cell-acc, target-inside, target-acc, store-none, store-null, store-cell, store-target}
 use borrow.Author.Needs.{needs}
 use native.Mathlib.Omega.{arith}

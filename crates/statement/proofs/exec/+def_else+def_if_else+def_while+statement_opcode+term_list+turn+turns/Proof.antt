@@ -4,12 +4,13 @@ use Prim.Native.Nat.{ℕ, _<_, _≤_, _+_, _-_, _*_}
 use lib.ListN.{length, take, drop, getD}
 use Rattle.pkg_length.specs.Refusal.{blockLimit}
 use Rattle.statement.specs.declared.frame.Frame.{Frame}
-use Rattle.statement.specs.declared.opcode.StmtOp.{StmtOp}
-use Rattle.statement.specs.declared.opcode.StmtOp.the-variants.{Return, If, While}
-use Rattle.statement.specs.Grammar.{depthLimit}
-use Rattle.statement.specs.Reader.{readTerm, readHead, readElse, readIf, stmtBy, readStmt, readList}
+use Rattle.grammar.specs.declared.opcode.StmtOp.{StmtOp}
+use Rattle.grammar.specs.declared.opcode.StmtOp.the-variants.{Return, If, While}
+use Rattle.grammar.specs.Grammar.{depthLimit}
+use Rattle.grammar.specs.Reader.{readTerm, readHead, readElse, readIf, stmtBy, readStmt, readList}
 use Rattle.statement.specs.Meaning.{Ran}
-use Rattle.statement.specs.Lent.{bits, Accepts, spanned, framed, Way, ranOf, stepOf, stepDo, turnsBy}
+use Rattle.grammar.specs.Said.{Accepts}
+use Rattle.statement.specs.Lent.{bits, spanned, framed, Way, ranOf, stepOf, stepDo, turnsBy}
 use Rattle.statement.proofs.Evals as evals
 use Rattle.statement.proofs.Runs as runs
 use borrow.Author.Needs.{needs}
@@ -48,7 +49,7 @@ use Rattle.statement.proofs.exec.while_out.Reads as while-out-reads
 use Rattle.statement.proofs.exec.pkg.Reads as pkg-reads
 use Rattle.statement.proofs.exec.plain.Reads as plain-reads
 use Rattle.statement.proofs.eval.term_arg.Reads as term-arg-reads
-use Rattle.statement.proofs.opcode.begun_op.Reads as begun-op-reads
+use Rattle.statement.proofs.exec.begun_op.Reads as begun-op-reads
 use Rattle.statement.proofs.exec.+def_else+def_if_else+def_while+statement_opcode+term_list+turn+turns.{
   statement,
 }

@@ -1,6 +1,6 @@
 -- What was read behind the If says where it ends.
 use Rattle.statement.specs.Lent.{spanned}
-use Rattle.statement.proofs.Reaches.{else-end, else-other}
+use Rattle.grammar.proofs.Reaches.{else-end, else-other}
 use Rattle.statement.proofs.Runs.{else-package, else-next}
 use borrow.Author.Needs.{needs}
 use native.Mathlib.Omega.{arith}

@@ -1,8 +1,7 @@
 -- A package that was read is not refused, and holds its own bytes.
 use mathlib.Core.Path.{refl, sym}
-use Rattle.statement.proofs.Packages.{package-no, package-held}
-use Rattle.statement.proofs.Reaches.{spans}
-use Rattle.statement.proofs.Evals.{acc-same}
+use Rattle.grammar.proofs.Packages.{package-no, package-held}
+use Rattle.statement.proofs.Evals.{acc-same, spans}
 use borrow.Author.Needs.{needs}
 use native.Mathlib.Omega.{arith}
 use Rattle.statement.proofs.exec.pkg.Statement.{statement}

@@ -1,0 +1,9 @@
+pub mod Answers
+pub mod Tables
+pub mod Packages
+pub mod Terms
+pub mod Statements
+pub mod Reaches
+pub mod Places
+pub mod Theorems
+pub mod Spellings
