@@ -11,7 +11,7 @@ use borrow.Author.Tests.{eqb-true}
 use Rattle.name_object.specs.Component.{Component, root, up, seg, leadOk, segOk, fine, spellOne, componentLimit}
 use Rattle.name_object.specs.Memory.{nameOf, kindOk, componentOf, components, bytesOk, pathOk, pathOf, pushed, popped}
 use Rattle.name_object.specs.declared.AmlName.{AmlName}
-use Rattle.pkg_length.proofs.Answers.{halves}
+use Rattle.pkg_length.proofs.Answers.{halves, never}
 use Rattle.name_object.proofs.Paths.{path-fine, name-whole, seg-lead}
 use Rattle.name_object.proofs.Memory.{push-one}
 use Rattle.path.proofs.Walks.{length-path, path-byte}
@@ -20,7 +20,6 @@ use Rattle.table.specs.Tree.{number, key}
 use Rattle.path.specs.Normal.{oneSegment}
 use Rattle.namespace.specs.Search.{firstOf}
 use Rattle.namespace.specs.Inside.{Settled, Bare}
-use Rattle.table.proofs.Shape.{clash}
 use Rattle.namespace.proofs.Keys.{SegAt, seg-number}
 
 -- the test of one bare segment
@@ -65,11 +64,11 @@ bare-one name h e = one-kind _ _ _ _ first ∙ ap oneSegment (sym alone)
 module _ (name : AmlName) (hb : length (name .bytes) ≡ 128) (h : Bare componentLimit name) where
   view : (cs : List Component) → oneSegment cs ≡ true → fine true cs ≡ true → (length cs ≡ 1) × SegAt (firstOf cs) × (firstOf cs ≡ getD cs 0 up)
   unfolding fine
-  view [] b f = clash (sym b)
-  view (root ∷ cs) b f = clash (sym b)
-  view (up ∷ cs) b f = clash (sym b)
+  view [] b f = never b
+  view (root ∷ cs) b f = never b
+  view (up ∷ cs) b f = never b
   view (seg p q r s ∷ []) b f = (refl, record { a = p; b = q; c = r; d = s; is = refl; ok = halves (segOk p q r s) true f .0 }, refl)
-  view (seg p q r s ∷ x ∷ cs) b f = clash (sym b)
+  view (seg p q r s ∷ x ∷ cs) b f = never b
 
   seen : (length (pathOf name) ≡ 1) × SegAt (firstOf (pathOf name)) × (firstOf (pathOf name) ≡ getD (pathOf name) 0 up)
   seen = view (pathOf name) (h .alone) (path-fine componentLimit name (h .path) .0)

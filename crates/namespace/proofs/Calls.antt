@@ -6,6 +6,7 @@ use Prim.Native.Nat.{ℕ, _<_}
 use lib.ListN.{length, take, set, replicate}
 use borrow.Author.Tests.{eq-eqb, ne-eqb}
 use native.Mathlib.Omega.{arith}
+use Rattle.pkg_length.proofs.Answers.{refuses-not}
 use Rattle.pkg_length.specs.Refusal.{Answer, gives, refuses, refused, andThen}
 use Rattle.pkg_length.specs.declared.AmlError.{AmlError}
 use Rattle.table.specs.Limits.{Limits}
@@ -16,7 +17,7 @@ use Rattle.path.specs.declared.PathSaid.{PathSaid}
 use Rattle.namespace.specs.Calls.{newCall}
 use Rattle.namespace.specs.Inside.{Ready}
 use Rattle.namespace.specs.declared.inner.PathKeys.{PathKeys}
-use Rattle.namespace.proofs.Keys.{no-gift}
+use Rattle.namespace.proofs.Keys.{}
 
 -- a call with a path
 module _ {B : Type 0} (m : Limits) (ws : List ℕ) (a : Answer (List ℕ)) (r : PathKeys) (h : Ready m ws a r) (next : Tree → List ℕ → Answer B) where
@@ -30,7 +31,7 @@ module _ {B : Type 0} (m : Limits) (ws : List ℕ) (a : Answer (List ℕ)) (r : 
       same {i} {j} {n} {k} f = let x : n ≡ i = cc in let y : k ≡ j = cc in λ z. refuses (x z) (y z)
 
       go : (x : Answer Tree) (b : Answer (List ℕ)) → andThen x (λ t. b) ≡ refused e → refused e ≡ andThen x (λ t. andThen b (next t))
-      go (gives t) (gives p) f = no-gift (sym f)
+      go (gives t) (gives p) f = refuses-not (sym f)
       go (gives t) (refuses i j) f = same f
       go (refuses i j) b f = same f
 

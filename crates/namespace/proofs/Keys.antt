@@ -9,7 +9,7 @@ use lib.Dec.{ltb}
 use lib.ListN.{length, take, getD, set}
 use lib.Seq.{take-suc, take-suc-set, take-all}
 use borrow.Author.Tests.{ltb-true, ltb-false}
-use Rattle.pkg_length.proofs.Answers.{halves}
+use Rattle.pkg_length.proofs.Answers.{halves, never, refuses-not, gives-same}
 use Rattle.pkg_length.specs.Refusal.{Answer, gives, refuses, refused, andThen}
 use Rattle.pkg_length.specs.declared.AmlError.{AmlError}
 use Rattle.name_object.specs.Component.{Component, root, up, seg, segOk, fine, spellOne, componentLimit}
@@ -29,7 +29,6 @@ use Rattle.namespace.specs.Calls.{settled, settledKeys, resolvedKeys}
 use Rattle.table.specs.Inside.{Keyed}
 use Rattle.namespace.specs.Inside.{Settled, KeysIn, Keys, Ready}
 use Rattle.namespace.specs.declared.inner.PathKeys.{PathKeys}
-use Rattle.table.proofs.Shape.{clash}
 use Rattle.table.proofs.Near.{length-keys}
 use Rattle.table.proofs.Objects.{means-formed, means-unformed}
 use Rattle.table.specs.Limits.{Limits}
@@ -40,12 +39,6 @@ unfolding keys
 key-getD [] i = refl
 key-getD (c ∷ cs) zero = refl
 key-getD (c ∷ cs) (suc i) = key-getD cs i
-
-pub no-gift : {A : Type 0} {T : Type 0} {a : A} {n p : ℕ} → refuses n p ≡ gives a → T
-no-gift e = absurd (let z : _≡_ {A = ℕ} 0 1 = cc in omega arith)
-
-pub gives-same : {A : Type 0} {a b : A} → gives a ≡ gives b → a ≡ b
-gives-same e = cc
 
 -- segments alone
 pub record SegAt (x : Component) : Type 0 where
@@ -59,8 +52,8 @@ pub record SegAt (x : Component) : Type 0 where
 segs-at : (es : List Component) (i : ℕ) → fine false es ≡ true → isNormal es ≡ true → i < length es → SegAt (getD es i up)
 unfolding fine
 segs-at [] i f n h = absurd (omega arith)
-segs-at (root ∷ es) i f n h = clash (sym f)
-segs-at (up ∷ es) i f n h = clash (sym n)
+segs-at (root ∷ es) i f n h = never f
+segs-at (up ∷ es) i f n h = never n
 segs-at (seg a b c d ∷ es) zero f n h = record { a = a; b = b; c = c; d = d; is = refl; ok = halves (segOk a b c d) (fine false es) f .0 }
 segs-at (seg a b c d ∷ es) (suc i) f n h = segs-at es i (halves (segOk a b c d) (fine false es) f .1) n (omega arith)
 
@@ -225,7 +218,7 @@ read-path limit name cs e = go (pathOk limit name) refl e
   where
     go : (x : Bool) → pathOk limit name ≡ x → cond x (gives (pathOf name)) (refuses 26 0) ≡ gives cs → fine true cs ≡ true
     go true h e = subst (λ (l : List Component). fine true l ≡ true) (gives-same e) (path-fine limit name h .0)
-    go false h e = no-gift e
+    go false h e = refuses-not e
 
 pub settled-keeps : (limit : ℕ) (cs : List Component) → fine true cs ≡ true → Keeps limit (settled limit cs)
 unfolding settled
@@ -233,22 +226,22 @@ settled-keeps limit cs f ns e = go (absolute cs) refl e
   where
     go : (x : Bool) → absolute cs ≡ x → cond x (normal limit cs) (refuses 11 0) ≡ gives ns → Kept limit ns
     go true a e = normal-kept limit cs ns f a e
-    go false a e = no-gift e
+    go false a e = refuses-not e
 
 pub asked-keeps : (limit : ℕ) (path : AmlName) → Keeps limit (asked limit path)
 asked-keeps limit path ns e = go (pathIn limit path) refl e
   where
     go : (a : Answer (List Component)) → pathIn limit path ≡ a → andThen a (settled limit) ≡ gives ns → Kept limit ns
     go (gives cs) q e = settled-keeps limit cs (read-path limit path cs q) ns e
-    go (refuses n k) q e = no-gift e
+    go (refuses n k) q e = refuses-not e
 
 pub joined-keeps : (limit : ℕ) (path scope : AmlName) → Keeps limit (joined limit path scope)
 joined-keeps limit path scope ns e = go (pathIn limit path) (pathIn limit scope) refl refl e
   where
     go : (a b : Answer (List Component)) → pathIn limit path ≡ a → pathIn limit scope ≡ b → andThen a (λ cs. andThen b (λ ss. resolved limit cs ss)) ≡ gives ns → Kept limit ns
     go (gives cs) (gives ss) q r e = resolved-kept limit cs ss ns (read-path limit path cs q) (read-path limit scope ss r) e
-    go (gives cs) (refuses n k) q r e = no-gift e
-    go (refuses n k) b q r e = no-gift e
+    go (gives cs) (refuses n k) q r e = refuses-not e
+    go (refuses n k) b q r e = refuses-not e
 
 pub against-keeps : (limit : ℕ) (path scope : AmlName) → pathOk limit path ≡ true → pathOk limit scope ≡ true → Keeps limit (resolved limit (pathOf path) (pathOf scope))
 against-keeps limit path scope hp hs ns e = resolved-kept limit (pathOf path) (pathOf scope) ns (path-fine limit path hp .0) (path-fine limit scope hs .0) e

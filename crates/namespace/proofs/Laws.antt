@@ -9,6 +9,7 @@ use native.Mathlib.Omega.{arith}
 use lib.ListN.{length, take}
 use lib.Seq.{length-take-le}
 use borrow.Author.Tests.{eq-eqb}
+use Rattle.pkg_length.proofs.Answers.{refuses-not, gives-same}
 use Rattle.pkg_length.specs.Refusal.{Answer, gives, refuses, andThen}
 use Rattle.name_object.specs.Component.{Component}
 use Rattle.name_object.specs.Memory.{Named, pathOk, pathOf, pathIn}
@@ -30,7 +31,7 @@ use Rattle.namespace.specs.declared.LevelType.{LevelType}
 use Rattle.namespace.specs.declared.LevelType.the-variants.{Scope, Device, Processor, PowerResource, ThermalZone, MethodLocals}
 use Rattle.namespace.specs.Calls.{newCall, settledKeys, resolvedKeys, typeNumber, addLevelCall, removeLevelCall, addValueCall, addValueResolvedCall, aliasAt, addAliasCall, setCall, getHandleCall, getByPathCall, setByPathCall}
 use Rattle.namespace.specs.Search.{firstOf, searchCall, levelCall}
-use Rattle.namespace.proofs.Keys.{no-gift, gives-same, key-ok, Keeps, asked, joined, asked-keys, joined-keys, asked-keeps, joined-keeps}
+use Rattle.namespace.proofs.Keys.{key-ok, Keeps, asked, joined, asked-keys, joined-keys, asked-keeps, joined-keeps}
 use Rattle.namespace.proofs.SearchCalls.{search-bare, level-bare}
 
 -- the keys of a normal absolute path are good
@@ -44,7 +45,7 @@ good-keys limit ns k =
 -- what the keys of an answer are good for
 keys-good : (limit : ℕ) (a : Answer (List Component)) (p : List ℕ) → Keeps limit a → andThen a (λ ns. gives (keys ns)) ≡ gives p → GoodKeys limit p
 keys-good limit (gives ns) p k e = subst (GoodKeys limit) (gives-same e) (good-keys limit ns (k ns refl))
-keys-good limit (refuses n m) p k e = no-gift e
+keys-good limit (refuses n m) p k e = refuses-not e
 
 pub settled-good : (limit : ℕ) (name : AmlName) (p : List ℕ) → settledKeys limit name ≡ gives p → GoodKeys limit p
 settled-good limit name p e = keys-good limit (asked limit name) p (asked-keeps limit name) (asked-keys limit name ∙ e)
@@ -54,7 +55,7 @@ joined-good limit path scope p e = keys-good limit (joined limit path scope) p (
 
 done-tree : (a : Answer Tree) (e : Edited (Unit {0})) → done a ≡ gives e → a ≡ gives (e .tree)
 done-tree (gives t) e d = ap (λ (x : Edited (Unit {0})). gives (x .tree)) (gives-same d)
-done-tree (refuses n k) e d = no-gift d
+done-tree (refuses n k) e d = refuses-not d
 
 pub type-low : (t : LevelType) → typeNumber t < 6
 type-low Scope = omega arith
@@ -89,7 +90,7 @@ module _ (m : Limits) (hm : m .objects ≤ 2 ^ 32) (cap : m .bindings < 1024) (w
     where
       go : (a : Answer A) → andThen a (next (decode m ws)) ≡ gives e → (p : A) × (a ≡ gives p) × (next (decode m ws) p ≡ gives e)
       go (gives p) d = (p, refl, d)
-      go (refuses n k) d = no-gift d
+      go (refuses n k) d = refuses-not d
 
   module _ {B : Type 0} (next : Tree → List ℕ → Answer (Edited B)) (a : Answer (List ℕ)) (valid : (p : List ℕ) (e : Edited B) → a ≡ gives p → next (decode m ws) p ≡ gives e → Whole m (e .tree)) where
     on-path : wellFormed m (left m ws (andThen (means m ws) (λ t. andThen a (next t))) .words) ≡ true
@@ -202,7 +203,7 @@ module _ (m : Limits) (hm : m .objects ≤ 2 ^ 32) (cap : m .bindings < 1024) (w
       where
         found : (a : Answer ℕ) (e : Edited (Unit {0})) → andThen a (λ h. done (setValue (decode m ws) h v)) ≡ gives e → Whole m (e .tree)
         found (gives h) e d = set-whole h e d
-        found (refuses n k) e d = no-gift d
+        found (refuses n k) e d = refuses-not d
 
   module _ (path scope target : AmlName) where
     -- an alias's call is its work on the keys of its path and of its target, once all three are paths
@@ -215,16 +216,16 @@ module _ (m : Limits) (hm : m .objects ≤ 2 ^ 32) (cap : m .bindings < 1024) (w
             → andThen x (λ ps. andThen y (λ qs. addAlias m (decode m ws) (keys ps) (keys qs))) ≡ gives e
             → (p q : List ℕ) × (andThen (resolved (m .components) cs ss) (λ ns. gives (keys ns)) ≡ gives p) × (andThen (resolved (m .components) ts ss) (λ ns. gives (keys ns)) ≡ gives q) × (addAlias m (decode m ws) p q ≡ gives e)
         last cs ss ts (gives ps) (gives qs) f g d = (keys ps, keys qs, rw f, rw g, d)
-        last cs ss ts (gives ps) (refuses n k) f g d = no-gift d
-        last cs ss ts (refuses n k) y f g d = no-gift d
+        last cs ss ts (gives ps) (refuses n k) f g d = refuses-not d
+        last cs ss ts (refuses n k) y f g d = refuses-not d
 
         go : (a b c : Answer (List Component)) → andThen a (λ cs. andThen b (λ ss. andThen c (λ ts. andThen (resolved (m .components) cs ss) (λ ps. andThen (resolved (m .components) ts ss) (λ qs. addAlias m (decode m ws) (keys ps) (keys qs)))))) ≡ gives e
             → (p q : List ℕ) × (andThen a (λ cs. andThen b (λ ss. andThen (resolved (m .components) cs ss) (λ ns. gives (keys ns)))) ≡ gives p)
             × (andThen c (λ ts. andThen b (λ ss. andThen (resolved (m .components) ts ss) (λ ns. gives (keys ns)))) ≡ gives q) × (addAlias m (decode m ws) p q ≡ gives e)
         go (gives cs) (gives ss) (gives ts) d = last cs ss ts (resolved (m .components) cs ss) (resolved (m .components) ts ss) refl refl d
-        go (gives cs) (gives ss) (refuses n k) d = no-gift d
-        go (gives cs) (refuses n k) c d = no-gift d
-        go (refuses n k) b c d = no-gift d
+        go (gives cs) (gives ss) (refuses n k) d = refuses-not d
+        go (gives cs) (refuses n k) c d = refuses-not d
+        go (refuses n k) b c d = refuses-not d
 
     alias-whole : (e : Edited ℕ) → addAliasCall m ws path scope target ≡ gives e → Whole m (e .tree)
     alias-whole e d =
@@ -273,7 +274,7 @@ module _ {A B : Type 0} (ask : List Component → Answer A) (x y : ℕ) (c : Com
     where
       go : (a : Answer (Found A)) → outward ask (refuses x y) ns (length ns) 0 ≡ a → named c value a ≡ gives r
           → (f : Found A) × (record { path = f .scope ++ (c ∷ []); value = value f } ≡ r) × Searched ask c ns (f .scope ++ (c ∷ [])) (f .asked) (f .value)
-      go (refuses n k) q e = no-gift e
+      go (refuses n k) q e = refuses-not e
       go (gives f) q e =
           let h = search-finds-innermost ask x y ns f q in (
             f,
@@ -302,7 +303,7 @@ module _ {A B : Type 0} (ask : List Component → Answer A) (x y : ℕ) (c : Com
   refused-none e = none-found ask x y ns (length ns) 0 (go (outward ask (refuses x y) ns (length ns) 0) e)
     where
       go : (a : Answer (Found A)) → named c value a ≡ refuses x y → a ≡ refuses x y
-      go (gives f) e = no-gift (sym e)
+      go (gives f) e = refuses-not (sym e)
       go (refuses n k) e = let i : n ≡ x = cc in let j : k ≡ y = cc in λ z. refuses (i z) (j z)
 
   none-refused : NoneHolds ask ns → named c value (outward ask (refuses x y) ns (length ns) 0) ≡ refuses x y

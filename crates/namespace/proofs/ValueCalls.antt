@@ -7,6 +7,7 @@ use native.Mathlib.Omega.{arith}
 use lib.ListN.{length, take, drop, getD, set}
 use lib.Seq.{getD-take, getD-drop}
 use borrow.Author.Tests.{lt-leb, le-leb}
+use Rattle.pkg_length.proofs.Answers.{never}
 use Rattle.pkg_length.specs.Refusal.{Answer, gives, refuses, refused, andThen}
 use Rattle.pkg_length.specs.declared.AmlError.{AmlError}
 use Rattle.name_object.proofs.Paths.{both}
@@ -23,7 +24,6 @@ use Rattle.namespace.specs.Calls.{aliasAt, addAliasCall}
 use Rattle.namespace.specs.Inside.{againstKeys}
 use Rattle.table.specs.Inside.{spotIn, bindWords}
 use Rattle.table.specs.declared.inner.Spot.{Spot}
-use Rattle.table.proofs.Shape.{clash}
 use Rattle.table.proofs.Objects.{whole, made-is, means-formed, means-unformed}
 use Rattle.table.proofs.Held.{bindings-room, bindings-full}
 use Rattle.table.proofs.BindCalls.{spot-refused, spot-bound, spot-live, spot-open, Open}
@@ -190,7 +190,7 @@ module _ (m : Limits) (ws : List ℕ) (path scope target : AmlName) where
         go : (a b c : Bool) → cond a (cond b c false) false ≡ false
             → refuses 26 0 ≡ andThen (cond a (gives (pathOf path)) (refuses 26 0)) (λ cs. andThen (cond b (gives (pathOf scope)) (refuses 26 0)) (λ ss.
             andThen (cond c (gives (pathOf target)) (refuses 26 0)) (λ ts. aliasAt m (decode m ws) cs ss ts)))
-        go true true true h = clash h
+        go true true true h = never (sym h)
         go true true false h = refl
         go true false c h = refl
         go false b c h = refl

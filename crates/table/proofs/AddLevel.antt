@@ -16,6 +16,7 @@ use Rattle.table.specs.Valid.{segmentOk, some}
 use Rattle.table.specs.Edits.{levelAt, alter, lastOf, hasLevel, insertLevel, withChild, withLevels, addLevel}
 use Rattle.table.specs.Inside.{Sought, here, before, missing, push}
 use Rattle.table.proofs.Whole.{Whole, level-count}
+use Rattle.table.proofs.Levels.{alter-some}
 use Rattle.table.proofs.Seek.{seekF, lacking, lacks, Shorter, shorter}
 use Rattle.table.proofs.Focus.{Focus, focus}
 use Rattle.table.proofs.Insert.{PutIn, put-length, put-around, put-words, insert-bound, insert-put, insert-valid, Has, has}
@@ -169,7 +170,7 @@ module _ (m : Limits) (t : Tree) (w : Whole m t) (p : List ℕ) (h : 1 < length 
     unfolding grown new withChild
     add-whole ht hs hl f =
         record {
-          rooted = root-stays (t .levels) (o .first) (o .middle) (w .rooted);
+          rooted = alter-some (withChild (lastOf p) typ) (t .levels) (o .first) (o .middle) (λ e s u b k n. refl) (w .rooted);
           forest = spot .keeps (withChild (lastOf p) typ) (
             spot .valid .0,
             insert-valid (m .components) (isLive t) (lastOf p) typ (spot .rank) (omega (arith, spot .deep)) (omega (arith, rank-is)) hs ht (spot .kids) 0 (there .at) (suc (there .at)) j
@@ -180,19 +181,6 @@ module _ (m : Limits) (t : Tree) (w : Whole m t) (p : List ℕ) (h : 1 < length 
           bindings = rw same-bound (w .bindings);
           objects = w .objects;
         }
-      where
-        root-stays : (f : Forest) (x : ℕ) (q : List ℕ) → some f ≡ true → some (alter (withChild (lastOf p) typ) f (x ∷ q)) ≡ true
-        root-stays none x q h = unfold alter in h
-        root-stays (level s′ t b kids next) x [] h = unfold alter withChild in go (eqb s′ x)
-          where
-            go : (e : Bool) → some (cond e (level s′ t b (insertLevel (lastOf p) typ kids) next) (level s′ t b kids (alter (withChild (lastOf p) typ) next (x ∷ [])))) ≡ true
-            go true = refl
-            go false = refl
-        root-stays (level s′ t b kids next) x (y ∷ q) h = unfold alter in go (eqb s′ x)
-          where
-            go : (e : Bool) → some (cond e (level s′ t b (alter (withChild (lastOf p) typ) kids (y ∷ q)) next) (level s′ t b kids (alter (withChild (lastOf p) typ) next (x ∷ y ∷ q)))) ≡ true
-            go true = refl
-            go false = refl
 
 pub add-root : (m : Limits) (t : Tree) (p : List ℕ) (typ : ℕ) → length p ≤ 1 → addLevel m t p typ ≡ gives t
 unfolding addLevel

@@ -7,14 +7,16 @@ use native.Mathlib.Omega.{arith}
 use lib.Dec.{ltb, eqb}
 use lib.ListN.{length, length-append}
 use Rattle.pkg_length.specs.Refusal.{gives}
-use Rattle.table.specs.Tree.{Binding, Forest, none, level, bound}
+use Rattle.pkg_length.proofs.Answers.{refuses-not}
+use Rattle.table.specs.Tree.{Binding, Forest, none, level, Level, bound}
 use Rattle.table.specs.Layout.{pack, countOf, flat}
 use Rattle.table.specs.Edits.{levelAt, Change, alter}
-use Rattle.table.specs.Inside.{here, gone, counts}
+use Rattle.table.specs.Inside.{Sought, here, before, missing, gone, counts}
 use Rattle.table.proofs.Words.{count-pack}
 use Rattle.table.proofs.Shape.{Valid}
 use Rattle.table.proofs.Decode.{Below, below-flat}
-use Rattle.table.proofs.Seek.{after, after-is, seekF, seek-nil}
+use Rattle.table.proofs.Levels.{level-miss, alter-miss}
+use Rattle.table.proofs.Seek.{after, after-is, seekF, seek-nil, lacking, lacks}
 
 pub counts-append : (xs ys : List ℕ) → counts (xs ++ ys) ≡ counts xs + counts ys
 unfolding counts
@@ -167,17 +169,6 @@ module _ (limit : ℕ) (live : ℕ → Bool) (s′ t : ℕ) (b : List Binding) (
           through = λ p. rw (e, d) (f .through p);
         }
 
-module _ (s′ t : ℕ) (b : List Binding) (kids next : Forest) (s : ℕ) (e : eqb s′ s ≡ false) where
-  alter-next : (p : List ℕ) (g : Change) → alter g (level s′ t b kids next) (s ∷ p) ≡ level s′ t b kids (alter g next (s ∷ p))
-  unfolding alter
-  alter-next [] g = rw e
-  alter-next (x ∷ q) g = rw e
-
-  level-next : (p : List ℕ) (n : ℕ) → levelAt n (level s′ t b kids next) (s ∷ p) ≡ levelAt n next (s ∷ p)
-  unfolding levelAt
-  level-next [] n = rw e
-  level-next (x ∷ q) n = rw e
-
 here-same : {i j : ℕ} → here i ≡ here j → i ≡ j
 here-same e = cc
 
@@ -194,7 +185,7 @@ module _ (limit : ℕ) (live : ℕ → Bool) (s′ t : ℕ) (b : List Binding) (
   focus-pick true d x z y = inside x y
   focus-pick false true x z y = absurd (gone-not p r k j y)
   focus-pick false false x z y =
-      focus-next limit live s′ t b kids next r lo₀ v s at k p j x z (later y) (λ g. alter-next s′ t b kids next s x p g) (level-next s′ t b kids next s x p r)
+      focus-next limit live s′ t b kids next r lo₀ v s at k p j x z (later y) (λ g. alter-miss s′ t b kids next s g p x) (level-miss s′ t b kids next s r p x)
 
 -- whatever the pass finds has its focus
 pub focus : (limit : ℕ) (live : ℕ → Bool) (f : Forest) (r lo₀ s : ℕ) (p : List ℕ) (at k j : ℕ) → Valid limit live (suc r) lo₀ f → seekF f (s ∷ p) r at k ≡ here j → Focus limit live f r lo₀ (s ∷ p) at j k
@@ -210,3 +201,12 @@ focus limit live (level s′ t b kids next) r lo₀ s (x ∷ q) at k j v e =
     (λ y z. focus-kids limit live s′ t b kids next r lo₀ v s at k x q j y (focus limit live kids (suc r) 0 x q k (suc k) j (v .1) z))
     (focus limit live next r (suc s′) s (x ∷ q) at (after kids (suc k)) j (v .2))
     (eqb s′ s) (ltb s s′) refl refl e
+
+-- a level that the definition finds has its focus
+pub focus-at : (limit : ℕ) (live : ℕ → Bool) (f : Forest) (lo s : ℕ) (p : List ℕ) (l : Level) → Valid limit live 1 lo f → levelAt 0 f (s ∷ p) ≡ gives l → (k : ℕ) × Focus limit live f 0 lo (s ∷ p) 0 k 0
+focus-at limit live f lo s p l v e = go (seekF f (s ∷ p) 0 0 0) refl (lacks limit live f 0 lo s p 0 0 v)
+  where
+    go : (x : Sought) → seekF f (s ∷ p) 0 0 0 ≡ x → lacking 0 p x (levelAt 0 f (s ∷ p)) → (k : ℕ) × Focus limit live f 0 lo (s ∷ p) 0 k 0
+    go (here k) d a = (k, focus limit live f 0 lo s p 0 0 k v d)
+    go (before k) d a = refuses-not (sym a ∙ e)
+    go (missing n) d a = refuses-not (sym a ∙ e)

@@ -8,23 +8,17 @@ use lib.Dec.{leb, ltb, eqb}
 use lib.ListN.{length, getD, set, length-append, length-take, length-set, List·getD-append}
 use lib.Seq.{getD-at, getD-set-same, getD-set-other}
 use borrow.Author.Tests.{eq-eqb, ne-eqb, eqb-true, leb-false, lt-leb, lt-ltb, le-ltb, ltb-true, ltb-false}
-use Rattle.pkg_length.proofs.Answers.{halves}
+use Rattle.pkg_length.proofs.Answers.{halves, never, wrong, refuses-not, gives-same}
 use Rattle.pkg_length.specs.Refusal.{Answer, gives, refuses, andThen}
 use Rattle.table.specs.Limits.{Limits}
 use Rattle.table.specs.Tree.{Binding, Forest, none, level, Tree, Level, isLive, bound, levelCount}
 use Rattle.table.specs.Memory.{Edited}
-use Rattle.table.specs.Edits.{levelAt, Change, alter, scopeOf, lastOf, hasLevel, insertLevel, insertBinding, withChild, withBinding, without, withLevels, withObjects, nextHandle, handleIn, isBound, addLevel, removeLevel, lookUp, bind, addValue, addAlias, valueOf, setValue}
-use Rattle.table.proofs.Shape.{clash}
+use Rattle.table.specs.Edits.{reached, levelAt, Change, alter, scopeOf, lastOf, hasLevel, insertLevel, insertBinding, withChild, withBinding, without, withLevels, withObjects, nextHandle, handleIn, isBound, addLevel, removeLevel, lookUp, bind, addValue, addAlias, valueOf, setValue}
 use Rattle.table.proofs.Shape.{Valid}
 use Rattle.table.proofs.Whole.{Whole}
+use Rattle.table.proofs.Levels.{made, level-hit, level-miss, alter-hit, alter-miss}
 use Rattle.table.proofs.Seek.{late}
 use Rattle.table.proofs.Held.{split-last}
-
-gives-same : {A : Type 0} {a b : A} → gives a ≡ gives b → a ≡ b
-gives-same e = cc
-
-no-gift : {A : Type 0} {T : Type 0} {a : A} {n p : ℕ} → refuses n p ≡ gives a → T
-no-gift e = absurd (let z : _≡_ {A = ℕ} 0 1 = cc in omega arith)
 
 -- Paths.
 
@@ -45,14 +39,14 @@ under-more (x ∷ p) a b = rw (same-eqb x) (under-more p a b)
 pub under-rest : (p q : List ℕ) → under p q ≡ true → (r : List ℕ) × (q ≡ p ++ r)
 unfolding under
 under-rest [] q h = (q, refl)
-under-rest (x ∷ p) [] h = clash (sym h)
+under-rest (x ∷ p) [] h = never h
 under-rest (x ∷ p) (y ∷ q) h = go (eqb x y) refl (under-rest p q) h
   where
     go : (e : Bool) → eqb x y ≡ e → (under p q ≡ true → (r : List ℕ) × (q ≡ p ++ r)) → e && under p q ≡ true → (r : List ℕ) × (y ∷ q ≡ x ∷ (p ++ r))
     go true e i h =
         let k = i h in
         (k .0, λ j. sym (eqb-true x y e) j ∷ (k .1 j))
-    go false e i h = clash (sym h)
+    go false e i h = never h
 
 under-one : (x y : ℕ) (q : List ℕ) → under (x ∷ []) (y ∷ q) ≡ eqb x y && true
 unfolding under
@@ -66,8 +60,8 @@ under-same (x ∷ p) = rw (same-eqb x) (under-same p)
 under-both : (p q : List ℕ) → under p q ≡ true → under q p ≡ true → p ≡ q
 unfolding under
 under-both [] [] h k = refl
-under-both [] (y ∷ q) h k = clash (sym k)
-under-both (x ∷ p) [] h k = clash (sym h)
+under-both [] (y ∷ q) h k = never k
+under-both (x ∷ p) [] h k = never h
 under-both (x ∷ p) (y ∷ q) h k =
     let a = halves (eqb x y) (under p q) h in
     let b = halves (eqb y x) (under q p) k in
@@ -82,15 +76,10 @@ held a = andThen a (λ l. gives (l .bindings))
 
 -- a level and then a path from it, n segments being behind
 abbrev inside : ℕ → Level → List ℕ → Answer Level
-inside n l [] = gives l
-inside n l (x ∷ q) = levelAt (suc n) (l .children) (x ∷ q)
-
-abbrev made : ℕ → ℕ → List Binding → Forest → Level
-made s t b kids = record { segment = s; typ = t; bindings = b; children = kids }
+inside n l q = reached q (gives l) (levelAt (suc n) (l .children) q)
 
 abbrev altered : Change → ℕ → ℕ → List Binding → Forest → Forest → List ℕ → Forest
-altered g s t b kids next [] = g s t b kids next
-altered g s t b kids next (x ∷ p) = level s t b (alter g kids (x ∷ p)) next
+altered g s t b kids next p = reached p (g s t b kids next) (level s t b (alter g kids p) next)
 
 level-none : (n : ℕ) (p : List ℕ) → levelAt n none p ≡ refuses 15 n
 unfolding levelAt
@@ -101,28 +90,6 @@ unfolding levelAt
 level-nil n none = refl
 level-nil n (level s t b kids next) = refl
 
--- a path's first segment is this level's, or it is looked for among the later siblings
-module _ (s′ t : ℕ) (b : List Binding) (kids next : Forest) (s : ℕ) where
-  level-hit : (n : ℕ) (q : List ℕ) → eqb s′ s ≡ true → levelAt n (level s′ t b kids next) (s ∷ q) ≡ inside n (made s′ t b kids) q
-  unfolding levelAt
-  level-hit n [] e = rw e
-  level-hit n (x ∷ q) e = rw e
-
-  level-miss : (n : ℕ) (q : List ℕ) → eqb s′ s ≡ false → levelAt n (level s′ t b kids next) (s ∷ q) ≡ levelAt n next (s ∷ q)
-  unfolding levelAt
-  level-miss n [] e = rw e
-  level-miss n (x ∷ q) e = rw e
-
-  alter-hit : (g : Change) (p : List ℕ) → eqb s′ s ≡ true → alter g (level s′ t b kids next) (s ∷ p) ≡ altered g s′ t b kids next p
-  unfolding alter
-  alter-hit g [] e = rw e
-  alter-hit g (x ∷ p) e = rw e
-
-  alter-miss : (g : Change) (p : List ℕ) → eqb s′ s ≡ false → alter g (level s′ t b kids next) (s ∷ p) ≡ level s′ t b kids (alter g next (s ∷ p))
-  unfolding alter
-  alter-miss g [] e = rw e
-  alter-miss g (x ∷ p) e = rw e
-
 -- a change leaves the level's later siblings
 abbrev Sibling : Change → Type 0
 Sibling g = (s t : ℕ) (b : List Binding) (kids next : Forest) (n y : ℕ) (q : List ℕ) → eqb s y ≡ false → levelAt n (g s t b kids next) (y ∷ q) ≡ levelAt n next (y ∷ q)
@@ -132,7 +99,7 @@ module _ (g : Change) (later : Sibling g) where
   frame : (f : Forest) (p q : List ℕ) (n : ℕ) → under p q ≡ false → held (levelAt n (alter g f p) q) ≡ held (levelAt n f q)
   unfolding under
   frame none p q n u = unfold alter in refl
-  frame (level s′ t b kids next) [] q n u = clash u
+  frame (level s′ t b kids next) [] q n u = never (sym u)
   frame (level s′ t b kids next) (s ∷ p) [] n u =
       ap held (level-nil n (alter g (level s′ t b kids next) (s ∷ p)) ∙ sym (level-nil n (level s′ t b kids next)))
   frame (level s′ t b kids next) (s ∷ p) (y ∷ q) n u = go (eqb s′ s) (eqb s′ y) refl refl (frame kids) (frame next (s ∷ p) (y ∷ q) n u)
@@ -142,7 +109,7 @@ module _ (g : Change) (later : Sibling g) where
 
       below : (p q : List ℕ) → under p q ≡ false → ((p q : List ℕ) (n : ℕ) → under p q ≡ false → held (levelAt n (alter g kids p) q) ≡ held (levelAt n kids q))
           → (d : eqb s′ s ≡ true) → (e : eqb s′ y ≡ true) → held (levelAt n (altered g s′ t b kids next p) (y ∷ q)) ≡ held (inside n (made s′ t b kids) q)
-      below [] q h i d e = clash h
+      below [] q h i d e = never (sym h)
       below (x ∷ p) [] h i d e = ap held (level-hit s′ t b (alter g kids (x ∷ p)) next y n [] e)
       below (x ∷ p) (z ∷ q) h i d e = ap held (level-hit s′ t b (alter g kids (x ∷ p)) next y n (z ∷ q) e) ∙ i (x ∷ p) (z ∷ q) (suc n) h
 
@@ -187,8 +154,8 @@ record Stands (n : ℕ) (f : Forest) (p : List ℕ) (bs : List Binding) (kids : 
 
 module _ (bs : List Binding → List Binding) (ks : Forest → Forest) where
   stands : (f : Forest) (p : List ℕ) (n : ℕ) (l : Level) → levelAt n f p ≡ gives l → Stands n (alter (kept bs ks) f p) p (bs (l .bindings)) (ks (l .children))
-  stands none p n l h = no-gift (sym (level-none n p) ∙ h)
-  stands (level s′ t b kids next) [] n l h = no-gift (sym (level-nil n (level s′ t b kids next)) ∙ h)
+  stands none p n l h = refuses-not (sym (level-none n p) ∙ h)
+  stands (level s′ t b kids next) [] n l h = refuses-not (sym (level-nil n (level s′ t b kids next)) ∙ h)
   stands (level s′ t b kids next) (s ∷ p) n l h = go p (eqb s′ s) refl (stands kids) (stands next (s ∷ p) n l) h
     where
       go : (p : List ℕ) (e : Bool) → eqb s′ s ≡ e
@@ -235,17 +202,13 @@ alter-same : (f : Forest) (p : List ℕ) → alter (kept (λ b. b) (λ k. k)) f 
 unfolding alter kept
 alter-same none p = refl
 alter-same (level s′ t b kids next) [] = refl
-alter-same (level s′ t b kids next) (s ∷ []) = go (eqb s′ s) (alter-same next (s ∷ []))
+alter-same (level s′ t b kids next) (s ∷ p) = go p (eqb s′ s) (alter-same kids) (alter-same next (s ∷ p))
   where
-    go : (e : Bool) → alter (kept (λ b. b) (λ k. k)) next (s ∷ []) ≡ next → cond e (level s′ t b kids next) (level s′ t b kids (alter (kept (λ b. b) (λ k. k)) next (s ∷ []))) ≡ level s′ t b kids next
-    go true i = refl
-    go false i = ap (level s′ t b kids) i
-alter-same (level s′ t b kids next) (s ∷ x ∷ p) = go (eqb s′ s) (alter-same kids (x ∷ p)) (alter-same next (s ∷ x ∷ p))
-  where
-    go : (e : Bool) → alter (kept (λ b. b) (λ k. k)) kids (x ∷ p) ≡ kids → alter (kept (λ b. b) (λ k. k)) next (s ∷ x ∷ p) ≡ next
-        → cond e (level s′ t b (alter (kept (λ b. b) (λ k. k)) kids (x ∷ p)) next) (level s′ t b kids (alter (kept (λ b. b) (λ k. k)) next (s ∷ x ∷ p))) ≡ level s′ t b kids next
-    go true i j = ap (λ (k : Forest). level s′ t b k next) i
-    go false i j = ap (level s′ t b kids) j
+    go : (p : List ℕ) (e : Bool) → ((p : List ℕ) → alter (kept (λ b. b) (λ k. k)) kids p ≡ kids) → alter (kept (λ b. b) (λ k. k)) next (s ∷ p) ≡ next
+        → cond e (reached p (level s′ t b kids next) (level s′ t b (alter (kept (λ b. b) (λ k. k)) kids p) next)) (level s′ t b kids (alter (kept (λ b. b) (λ k. k)) next (s ∷ p))) ≡ level s′ t b kids next
+    go [] true i j = refl
+    go (x ∷ p) true i j = ap (λ (k : Forest). level s′ t b k next) (i (x ∷ p))
+    go p false i j = ap (level s′ t b kids) j
 
 stood : (f : Forest) (p : List ℕ) (n : ℕ) (l : Level) → levelAt n f p ≡ gives l → Stands n f p (l .bindings) (l .children)
 stood f p n l h = subst (λ (g : Forest). Stands n g p (l .bindings) (l .children)) (alter-same f p) (stands (λ b. b) (λ k. k) f p n l h)
@@ -261,8 +224,8 @@ without-later s t b kids next n y q e = refl
 
 module _ (limit : ℕ) (live : ℕ → Bool) where
   gone : (f : Forest) (p r : List ℕ) (n rank lo : ℕ) (l : Level) → Valid limit live rank lo f → levelAt n f p ≡ gives l → levelAt n (alter without f p) (p ++ r) ≡ refuses 15 (n + (length p - 1))
-  gone none p r n rank lo l v h = no-gift (sym (level-none n p) ∙ h)
-  gone (level s′ t b kids next) [] r n rank lo l v h = no-gift (sym (level-nil n (level s′ t b kids next)) ∙ h)
+  gone none p r n rank lo l v h = refuses-not (sym (level-none n p) ∙ h)
+  gone (level s′ t b kids next) [] r n rank lo l v h = refuses-not (sym (level-nil n (level s′ t b kids next)) ∙ h)
   gone (level s′ t b kids next) (s ∷ p) r n rank lo l v h =
       go p (eqb s′ s) refl (λ p n h. gone kids p r n (suc rank) 0 l (v .1) h) (gone next (s ∷ p) r n rank (suc s′) l (v .2)) h
     where
@@ -289,7 +252,7 @@ module _ (limit : ℕ) (live : ℕ → Bool) where
 -- a new level among siblings
 has-level : (s : ℕ) (f : Forest) (n : ℕ) → hasLevel s f ≡ true → (l : Level) × (levelAt n f (s ∷ []) ≡ gives l)
 unfolding hasLevel
-has-level s none n h = clash (sym h)
+has-level s none n h = never h
 has-level s (level s′ t b kids next) n h = go (eqb s′ s) refl (has-level s next n) h
   where
     go : (e : Bool) → eqb s′ s ≡ e → (hasLevel s next ≡ true → (l : Level) × (levelAt n next (s ∷ []) ≡ gives l)) → e || hasLevel s next ≡ true
@@ -305,7 +268,7 @@ insert-found s typ (level s′ t b kids next) n q h = go (ltb s s′) (eqb s′ 
     go : (x e : Bool) → eqb s′ s ≡ e → (hasLevel s next ≡ false → levelAt n (insertLevel s typ next) (s ∷ q) ≡ inside n (made s typ [] none) q) → e || hasLevel s next ≡ false
         → levelAt n (cond x (level s typ [] none (level s′ t b kids next)) (level s′ t b kids (insertLevel s typ next))) (s ∷ q) ≡ inside n (made s typ [] none) q
     go true e d i h = level-hit s typ [] none (level s′ t b kids next) s n q (same-eqb s)
-    go false true d i h = clash h
+    go false true d i h = never (sym h)
     go false false d i h = level-miss s′ t b kids (insertLevel s typ next) s n q d ∙ i h
 
 insert-other : (s typ y : ℕ) (f : Forest) (n : ℕ) (q : List ℕ) → eqb s y ≡ false → levelAt n (insertLevel s typ f) (y ∷ q) ≡ levelAt n f (y ∷ q)
@@ -328,7 +291,7 @@ bound-found x (y ∷ b) h = go (ltb (x .segment) (y .segment)) (eqb (y .segment)
     go : (z e : Bool) → eqb (y .segment) (x .segment) ≡ e → (isBound (x .segment) b ≡ false → handleIn (x .segment) (insertBinding x b) ≡ gives (x .handle)) → e || isBound (x .segment) b ≡ false
         → handleIn (x .segment) (cond z (x ∷ y ∷ b) (y ∷ insertBinding x b)) ≡ gives (x .handle)
     go true e d i h = rw (same-eqb (x .segment))
-    go false true d i h = clash h
+    go false true d i h = never (sym h)
     go false false d i h = rw d (i h)
 
 bound-other : (x : Binding) (s : ℕ) (b : List Binding) → eqb (x .segment) s ≡ false → handleIn s (insertBinding x b) ≡ handleIn s b
@@ -348,7 +311,7 @@ bound-none s [] k = refl
 bound-none s (y ∷ b) k = go (eqb (y .segment) s) (bound-none s b) k
   where
     go : (e : Bool) → (isBound s b ≡ false → handleIn s b ≡ refuses 16 0) → e || isBound s b ≡ false → cond e (gives (y .handle)) (handleIn s b) ≡ refuses 16 0
-    go true i k = clash k
+    go true i k = never (sym k)
     go false i k = i k
 
 -- Trees.
@@ -406,29 +369,31 @@ pub record Valued (t u : Tree) (h v : ℕ) : Type 0 where
 
 module _ (m : Limits) (t u : Tree) (p : List ℕ) (h : ℕ) (e : bind m t p h ≡ gives u) where
   -- what a binding that was made says of the tree before
-  record Opened : Type 0 where
-    more : 1 < length p
-    at : Level
-    there : levelAt 0 (t .levels) (scopeOf p) ≡ gives at
-    free : isBound (lastOf p) (at .bindings) ≡ false
-    is : u ≡ withLevels t (alter (withBinding (record { segment = lastOf p; handle = h })) (t .levels) (scopeOf p))
+  pub record Opened : Type 0 where
+    pub more : 1 < length p
+    pub at : Level
+    pub there : levelAt 0 (t .levels) (scopeOf p) ≡ gives at
+    pub free : isBound (lastOf p) (at .bindings) ≡ false
+    pub room : length (bound (t .levels)) < m .bindings
+    pub is : u ≡ withLevels t (alter (withBinding (record { segment = lastOf p; handle = h })) (t .levels) (scopeOf p))
 
-  opened : Opened
+  pub opened : Opened
   unfolding bind
   opened = go (leb (length p) 1) (levelAt 0 (t .levels) (scopeOf p)) refl refl e
     where
       full : (x y : Bool) (l : Level) → 1 < length p → levelAt 0 (t .levels) (scopeOf p) ≡ gives l → isBound (lastOf p) (l .bindings) ≡ x
+          → leb (m .bindings) (length (bound (t .levels))) ≡ y
           → cond x (refuses 17 0) (cond y (refuses 19 0) (gives (withLevels t (alter (withBinding (record { segment = lastOf p; handle = h })) (t .levels) (scopeOf p))))) ≡ gives u → Opened
-      full true y l k q r e = no-gift e
-      full false true l k q r e = no-gift e
-      full false false l k q r e = record { more = k; at = l; there = q; free = r; is = sym (gives-same e) }
+      full true y l k q r v e = refuses-not e
+      full false true l k q r v e = refuses-not e
+      full false false l k q r v e = record { more = k; at = l; there = q; free = r; room = leb-false (m .bindings) (length (bound (t .levels))) v; is = sym (gives-same e) }
 
       go : (x : Bool) (a : Answer Level) → leb (length p) 1 ≡ x → levelAt 0 (t .levels) (scopeOf p) ≡ a
           → cond x (refuses 13 0) (andThen a (λ l. cond (isBound (lastOf p) (l .bindings)) (refuses 17 0) (cond (leb (m .bindings) (length (bound (t .levels)))) (refuses 19 0)
           (gives (withLevels t (alter (withBinding (record { segment = lastOf p; handle = h })) (t .levels) (scopeOf p))))))) ≡ gives u → Opened
-      go true a k q e = no-gift e
-      go false (refuses x y) k q e = no-gift e
-      go false (gives l) k q e = full (isBound (lastOf p) (l .bindings)) (leb (m .bindings) (length (bound (t .levels)))) l (leb-false (length p) 1 k) q refl e
+      go true a k q e = refuses-not e
+      go false (refuses x y) k q e = refuses-not e
+      go false (gives l) k q e = full (isBound (lastOf p) (l .bindings)) (leb (m .bindings) (length (bound (t .levels)))) l (leb-false (length p) 1 k) q refl refl e
 
   -- the level around, with its new binding
   abbrev x : Binding
@@ -495,8 +460,8 @@ module _ (m : Limits) (t u : Tree) (p : List ℕ) (h : ℕ) (e : bind m t p h �
           go : (a b d : Bool) → leb (length q) 1 ≡ a → under (scopeOf p) (scopeOf q) ≡ b → under (scopeOf q) (scopeOf p) ≡ d → lookUp u q ≡ lookUp t q
           go true b d i j k = root i
           go false true true i j k = beside (leb-false (length q) 1 i) (under-both (scopeOf q) (scopeOf p) k j)
-          go false true false i j k = look-same t u q (levels-elsewhere (scopeOf q) (λ e. clash (sym (under-same (scopeOf p)) ∙ (ap (λ (l : List ℕ). under l (scopeOf p)) (sym e) ∙ k))))
-          go false false d i j k = look-same t u q (levels-elsewhere (scopeOf q) (λ e. clash (sym (under-same (scopeOf p)) ∙ (ap (under (scopeOf p)) (sym e) ∙ j))))
+          go false true false i j k = look-same t u q (levels-elsewhere (scopeOf q) (λ e. wrong (under-same (scopeOf p)) (ap (λ (l : List ℕ). under l (scopeOf p)) (sym e) ∙ k)))
+          go false false d i j k = look-same t u q (levels-elsewhere (scopeOf q) (λ e. wrong (under-same (scopeOf p)) (ap (under (scopeOf p)) (sym e) ∙ j)))
 
 -- one object has another value
 value-same : (t u : Tree) (k : ℕ) → u .objects ≡ t .objects → valueOf u k ≡ valueOf t k
@@ -565,7 +530,7 @@ add-value-frame m t p v e h = go (bind m t p (nextHandle t)) refl h
   where
     last : (u : Tree) (x : Bool) → bind m t p (nextHandle t) ≡ gives u
         → cond x (refuses 20 0) (gives (record { tree = withObjects u (t .objects ++ (v ∷ [])); value = nextHandle t })) ≡ gives e → ValueAdded t (e .tree) p v (e .value)
-    last u true q h = no-gift h
+    last u true q h = refuses-not h
     last u false q h =
         subst (λ (z : Edited ℕ). ValueAdded t (z .tree) p v (z .value)) (gives-same h)
         (record {
@@ -578,29 +543,29 @@ add-value-frame m t p v e h = go (bind m t p (nextHandle t)) refl h
         → andThen a (λ u. cond (leb (m .objects) (length (t .objects))) (refuses 20 0) (gives (record { tree = withObjects u (t .objects ++ (v ∷ [])); value = nextHandle t }))) ≡ gives e
         → ValueAdded t (e .tree) p v (e .value)
     go (gives u) q h = last u (leb (m .objects) (length (t .objects))) q h
-    go (refuses n k) q h = no-gift h
+    go (refuses n k) q h = refuses-not h
 
 pub add-alias-frame : (m : Limits) (t : Tree) (p q : List ℕ) (e : Edited ℕ) → addAlias m t p q ≡ gives e → AliasAdded t (e .tree) p q (e .value)
 unfolding addAlias
 add-alias-frame m t p q e h = go (lookUp t q) refl h
   where
     last : (k : ℕ) (a : Answer Tree) → lookUp t q ≡ gives k → bind m t p k ≡ a → andThen a (λ u. gives (record { tree = u; value = k })) ≡ gives e → AliasAdded t (e .tree) p q (e .value)
-    last k (refuses i j) f g h = no-gift h
+    last k (refuses i j) f g h = refuses-not h
     last k (gives u) f g h =
         let n = name-added m t u p k g in
         subst (λ (z : Edited ℕ). AliasAdded t (z .tree) p q (z .value)) (gives-same h)
-        (record { target = f; name = n; still = n .names q (λ e. no-gift (sym (n .new) ∙ ap (lookUp t) (sym e) ∙ f)) ∙ f; objects = bind-objects m t u p k g })
+        (record { target = f; name = n; still = n .names q (λ e. refuses-not (sym (n .new) ∙ ap (lookUp t) (sym e) ∙ f)) ∙ f; objects = bind-objects m t u p k g })
 
     go : (a : Answer ℕ) → lookUp t q ≡ a → andThen a (λ k. andThen (bind m t p k) (λ u. gives (record { tree = u; value = k }))) ≡ gives e → AliasAdded t (e .tree) p q (e .value)
     go (gives k) f h = last k (bind m t p k) f refl h
-    go (refuses i j) f h = no-gift h
+    go (refuses i j) f h = refuses-not h
 
 pub set-value-frame : (t u : Tree) (h v : ℕ) → setValue t h v ≡ gives u → Valued t u h v × (u .levels ≡ t .levels)
 unfolding setValue
 set-value-frame t u h v e = go (ltb h (length (t .objects))) refl e
   where
     go : (x : Bool) → ltb h (length (t .objects)) ≡ x → cond x (gives (withObjects t (set (t .objects) h v))) (refuses 21 0) ≡ gives u → Valued t u h v × (u .levels ≡ t .levels)
-    go false q e = no-gift e
+    go false q e = refuses-not e
     go true q e =
         subst (λ (z : Tree). Valued t z h v × (z .levels ≡ t .levels)) (gives-same e) (
           record {
@@ -653,8 +618,8 @@ remove-level-frame m t u p w e = go (leb (length p) 1) (levelAt 0 (t .levels) p)
 
     go : (x : Bool) (a : Answer Level) → leb (length p) 1 ≡ x → levelAt 0 (t .levels) p ≡ a
         → cond x (refuses 14 0) (andThen a (λ l. gives (withLevels t (alter without (t .levels) p)))) ≡ gives u → LevelRemoved t u p
-    go true a k q e = no-gift e
-    go false (refuses i j) k q e = no-gift e
+    go true a k q e = refuses-not e
+    go false (refuses i j) k q e = refuses-not e
     go false (gives l) k q e = subst (λ (z : Tree). LevelRemoved t z p) (gives-same e) (removed l (leb-false (length p) 1 k) q)
 
 only-false : (b : Bool) → b && true ≡ false → b ≡ false
@@ -688,7 +653,7 @@ module _ (m : Limits) (t u : Tree) (p : List ℕ) (typ : ℕ) (far : 1 < length 
     level-was h =
         let k = has-level (lastOf p) (l .children) (suc (0 + (length (scopeOf p) - 1))) h in
         let f = to-last (t .levels) (l .bindings) (l .children) was ∙ k .1 in
-        record { there = (k .0, f, λ n i g. no-gift (sym g ∙ f)); levels = λ r n. refl; names = λ r n. refl; objects = refl }
+        record { there = (k .0, f, λ n i g. refuses-not (sym g ∙ f)); levels = λ r n. refl; names = λ r n. refl; objects = refl }
 
     level-new : hasLevel (lastOf p) (l .children) ≡ false → LevelAdded t grown p
     level-new h =
@@ -727,10 +692,10 @@ module _ (m : Limits) (t u : Tree) (p : List ℕ) (typ : ℕ) (far : 1 < length 
       last : (l : Level) → levelAt 0 (t .levels) (scopeOf p) ≡ gives l → (x y : Bool) → hasLevel (lastOf p) (l .children) ≡ x
           → cond x (gives t) (cond y (refuses 18 0) (gives grown)) ≡ gives u → LevelAdded t u p
       last l q true y h e = subst (λ (z : Tree). LevelAdded t z p) (gives-same e) (level-was l q h)
-      last l q false true h e = no-gift e
+      last l q false true h e = refuses-not e
       last l q false false h e = subst (λ (z : Tree). LevelAdded t z p) (gives-same e) (level-new l q h)
 
       go : (a : Answer Level) → levelAt 0 (t .levels) (scopeOf p) ≡ a
           → andThen a (λ l. cond (hasLevel (lastOf p) (l .children)) (gives t) (cond (leb (m .levels) (levelCount (t .levels))) (refuses 18 0) (gives grown))) ≡ gives u → LevelAdded t u p
       go (gives l) q e = last l q (hasLevel (lastOf p) (l .children)) (leb (m .levels) (levelCount (t .levels))) refl e
-      go (refuses i j) q e = no-gift e
+      go (refuses i j) q e = refuses-not e

@@ -10,6 +10,7 @@ use lib.Dec.{leb, ltb, eqb}
 use lib.ListN.{length, take, set, replicate, length-append, length-set}
 use lib.Seq.{length-take-le}
 use borrow.Author.Tests.{le-leb, lt-leb, leb-true, leb-false, ltb-true, ltb-false, lt-ltb}
+use Rattle.pkg_length.proofs.Answers.{refuses-not, gives-same}
 use Rattle.pkg_length.specs.Refusal.{Answer, gives, refuses, andThen}
 use Rattle.name_object.specs.Component.{Component}
 use Rattle.table.specs.Limits.{Limits}
@@ -25,20 +26,16 @@ use Rattle.table.proofs.Shape.{Valid, fit}
 use Rattle.table.proofs.Whole.{Whole, valid-whole}
 use Rattle.table.proofs.Memory.{means-encode, means-whole, one-tree, encode-formed, formed-whole}
 use Rattle.table.proofs.Objects.{fresh-valid}
-use Rattle.table.proofs.Seek.{seekF, lacking, lacks}
-use Rattle.table.proofs.Focus.{Focus, focus}
+use Rattle.table.proofs.Seek.{seekF}
+use Rattle.table.proofs.Levels.{alter-some}
+use Rattle.table.proofs.Focus.{Focus, focus-at}
 use Rattle.table.proofs.Held.{Split, split-last}
 use Rattle.table.proofs.AddLevel.{add-root, add-here, add-missing, add-full, add-room, add-whole}
 use Rattle.table.proofs.Remove.{remove-root, remove-here, remove-before, remove-missing, removed-whole}
-use Rattle.table.proofs.Slots.{rising-more, FreeAt, slot-bound, slot-free}
+use Rattle.table.proofs.Slots.{rising-more, FreeAt, free-slot}
 use Rattle.table.proofs.Bind.{new, same-count, one-bound, bound-valid}
+use Rattle.table.proofs.Frames.{Opened, opened}
 use Rattle.table.proofs.Near.{level-stands, handle-live}
-
-gives-same : {A : Type 0} {a b : A} → gives a ≡ gives b → a ≡ b
-gives-same e = cc
-
-no-gift : {A : Type 0} {T : Type 0} {a : A} {n p : ℕ} → refuses n p ≡ gives a → T
-no-gift e = absurd (let z : _≡_ {A = ℕ} 0 1 = cc in omega arith)
 
 -- Memory.
 
@@ -62,7 +59,7 @@ means-is-written m ws t hm = ((λ h. means-whole m ws t h), (λ h. ap (means m) 
 -- and refused by 24 exactly when no valid tree is written so
 pub memory-refused : (m : Limits) (ws : List ℕ) → m .objects ≤ 2 ^ 32 → (means m ws ≡ refuses 24 0) ↔ ((t : Tree) → WrittenFrom m ws t → ⊥)
 unfolding means
-memory-refused m ws hm = (λ h t w. no-gift (sym h ∙ means-is-written m ws t hm .1 (w .allowed, w .words)), λ h. go (wellFormed m ws) refl h)
+memory-refused m ws hm = (λ h t w. refuses-not (sym h ∙ means-is-written m ws t hm .1 (w .allowed, w .words)), λ h. go (wellFormed m ws) refl h)
   where
     go : (x : Bool) → wellFormed m ws ≡ x → ((t : Tree) → WrittenFrom m ws t → ⊥) → cond x (gives (decode m ws)) (refuses 24 0) ≡ refuses 24 0
     go true e h = let x = memory-means-one-tree m ws hm .0 e in absurd (h (x .0) (x .1))
@@ -93,11 +90,11 @@ add-level-valid m t u p typ w g ht e = go (leb (length p) 1) refl
 
     deep : (h : 1 < length p) (s : Sought) → seekF (t .levels) p 0 0 0 ≡ s → Whole m u
     deep h (here j) d = kept (add-here m t w p h typ j d)
-    deep h (missing n) d = no-gift (sym (add-missing m t w p h typ n d) ∙ e)
+    deep h (missing n) d = refuses-not (sym (add-missing m t w p h typ n d) ∙ e)
     deep h (before j) d = room (leb (m .levels) (length (flat 1 (t .levels)))) refl
       where
         room : (x : Bool) → leb (m .levels) (length (flat 1 (t .levels))) ≡ x → Whole m u
-        room true q = no-gift (sym (add-full m t w p h typ j d (leb-true _ _ q)) ∙ e)
+        room true q = refuses-not (sym (add-full m t w p h typ j d (leb-true _ _ q)) ∙ e)
         room false q =
             let l = leb-false (m .levels) (length (flat 1 (t .levels))) q in
             subst (Whole m) (gives-same (sym (add-room m t w p h typ j d l) ∙ e)) (add-whole m t w p h typ j d ht (g .named h) (g .short) l)
@@ -113,60 +110,24 @@ remove-level-valid m t u p w e = go (leb (length p) 1) refl
     deep h (here j) d =
         let x = remove-here m t w p j h d in
         subst (Whole m) (gives-same (sym (x .1) ∙ e)) (removed-whole m t w p j (x .0) _ _ refl refl h)
-    deep h (before j) d = no-gift (sym (remove-before m t w p j h d) ∙ e)
-    deep h (missing n) d = no-gift (sym (remove-missing m t w p n h d) ∙ e)
+    deep h (before j) d = refuses-not (sym (remove-before m t w p j h d) ∙ e)
+    deep h (missing n) d = refuses-not (sym (remove-missing m t w p n h d) ∙ e)
 
     go : (x : Bool) → leb (length p) 1 ≡ x → Whole m u
-    go true q = no-gift (sym (remove-root t p (leb-true (length p) 1 q)) ∙ e)
+    go true q = refuses-not (sym (remove-root t p (leb-true (length p) 1 q)) ∙ e)
     go false q = deep (leb-false (length p) 1 q) (seekF (t .levels) p 0 0 0) refl
 
--- a change that leaves the level there leaves a root
-alter-some : (g : Change) → ((s t : ℕ) (b : List Binding) (k n : Forest) → some (g s t b k n) ≡ true) → (f : Forest) (p : List ℕ) → some f ≡ true → some (alter g f p) ≡ true
-unfolding alter
-alter-some g h none p k = k
-alter-some g h (level s′ t b kids next) [] k = refl
-alter-some g h (level s′ t b kids next) (x ∷ []) k = go (eqb s′ x)
-  where
-    go : (e : Bool) → some (cond e (g s′ t b kids next) (level s′ t b kids (alter g next (x ∷ [])))) ≡ true
-    go true = h s′ t b kids next
-    go false = refl
-alter-some g h (level s′ t b kids next) (x ∷ y ∷ p) k = go (eqb s′ x)
-  where
-    go : (e : Bool) → some (cond e (level s′ t b (alter g kids (y ∷ p)) next) (level s′ t b kids (alter g next (x ∷ y ∷ p)))) ≡ true
-    go true = refl
-    go false = refl
-
 module _ (m : Limits) (t u : Tree) (p : List ℕ) (h : ℕ) (w : Whole m t) (g : GoodKeys (m .components) p) (live : isLive t h ≡ true) (cap : m .bindings < 1024) (hm : m .objects ≤ 2 ^ 32) (e : bind m t p h ≡ gives u) where
-  more : 1 < length p
-  more = go (leb (length p) 1) refl
-    where
-      root-no : length p ≤ 1 → bind m t p h ≡ refuses 13 0
-      root-no l = unfold bind in rw (le-leb (length p) 1 l)
-
-      go : (x : Bool) → leb (length p) 1 ≡ x → 1 < length p
-      go true q = no-gift (sym (root-no (leb-true (length p) 1 q)) ∙ e)
-      go false q = leb-false (length p) 1 q
-
-  opened : (a : Answer Level) → levelAt 0 (t .levels) (scopeOf p) ≡ a
-      → bind m t p h ≡ andThen a (λ l. cond (isBound (lastOf p) (l .bindings)) (refuses 17 0) (cond (leb (m .bindings) (length (bound (t .levels)))) (refuses 19 0)
-      (gives (withLevels t (alter (withBinding (record { segment = lastOf p; handle = h })) (t .levels) (scopeOf p))))))
-  unfolding bind
-  opened a q = rw (lt-leb (length p) 1 more, q)
+  abbrev made : Opened m t u p h e
+  made = opened m t u p h e
 
   o : Split p
-  o = split-last p more
+  o = split-last p (made .more)
 
   spot : (k : ℕ) × Focus (m .components) (isLive t) (t .levels) 0 0 (scopeOf p) 0 k 0
-  spot = go (seekF (t .levels) (o .first ∷ o .middle) 0 0 0) refl (lacks (m .components) (isLive t) (t .levels) 0 0 (o .first) (o .middle) 0 0 (w .forest))
-    where
-      lost : (n : ℕ) → levelAt 0 (t .levels) (o .first ∷ o .middle) ≡ refuses 15 n → (k : ℕ) × Focus (m .components) (isLive t) (t .levels) 0 0 (scopeOf p) 0 k 0
-      lost n q = no-gift (sym (opened (refuses 15 n) (ap (levelAt 0 (t .levels)) (o .scope) ∙ q)) ∙ e)
-
-      go : (s : Sought) → seekF (t .levels) (o .first ∷ o .middle) 0 0 0 ≡ s → lacking 0 (o .middle) s (levelAt 0 (t .levels) (o .first ∷ o .middle))
-          → (k : ℕ) × Focus (m .components) (isLive t) (t .levels) 0 0 (scopeOf p) 0 k 0
-      go (here k) q l = (k, subst (λ (x : List ℕ). Focus (m .components) (isLive t) (t .levels) 0 0 x 0 k 0) (sym (o .scope)) (focus (m .components) (isLive t) (t .levels) 0 0 (o .first) (o .middle) 0 0 k (w .forest) q))
-      go (before k) q l = lost _ l
-      go (missing n) q l = lost n l
+  spot =
+      subst (λ (x : List ℕ). (k : ℕ) × Focus (m .components) (isLive t) (t .levels) 0 0 x 0 k 0) (sym (o .scope))
+      (focus-at (m .components) (isLive t) (t .levels) 0 (o .first) (o .middle) (made .at) (w .forest) (sym (ap (levelAt 0 (t .levels)) (o .scope)) ∙ made .there))
 
   abbrev f : Focus (m .components) (isLive t) (t .levels) 0 0 (scopeOf p) 0 (spot .0) 0
   f = spot .1
@@ -178,48 +139,23 @@ module _ (m : Limits) (t u : Tree) (p : List ℕ) (h : ℕ) (w : Whole m t) (g :
   ls = flat 1 (t .levels) ++ replicate 0 0
 
   free : (i : ℕ) × FreeAt (lastOf p) (isLive t) 0 (record { segment = lastOf p; handle = h }) (f .b) (counts (take (spot .0) ls)) i
-  free = go (slotIn (lastOf p) (f .b) (counts (take (spot .0) ls))) refl
-    where
-      taken : isBound (lastOf p) (f .b) ≡ true → bind m t p h ≡ refuses 17 0
-      taken q = opened (gives (record { segment = f .seg; typ = f .typ; bindings = f .b; children = f .kids })) (f .found) ∙ rw q
-
-      go : (s : Slot) → slotIn (lastOf p) (f .b) (counts (take (spot .0) ls)) ≡ s → (i : ℕ) × FreeAt (lastOf p) (isLive t) 0 (record { segment = lastOf p; handle = h }) (f .b) (counts (take (spot .0) ls)) i
-      go (Slot.Bound k) q = no-gift (sym (taken (slot-bound (lastOf p) (f .b) (counts (take (spot .0) ls)) k q .1)) ∙ e)
-      go (Slot.Free i) q = (i, slot-free (lastOf p) (isLive t) 0 x (f .b) (counts (take (spot .0) ls)) i refl (f .valid .0 .ordered) q)
-
-  full : bind m t p h ≡ cond (leb (m .bindings) (length (bound (t .levels)))) (refuses 19 0) (gives (withLevels t (alter (withBinding x) (t .levels) (scopeOf p))))
-  full = opened (gives (record { segment = f .seg; typ = f .typ; bindings = f .b; children = f .kids })) (f .found) ∙ rw (free .1 .clear)
-
-  room : length (bound (t .levels)) < m .bindings
-  room = go (leb (m .bindings) (length (bound (t .levels)))) refl
-    where
-      over : leb (m .bindings) (length (bound (t .levels))) ≡ true → bind m t p h ≡ refuses 19 0
-      over q = full ∙ rw q
-
-      go : (z : Bool) → leb (m .bindings) (length (bound (t .levels))) ≡ z → length (bound (t .levels)) < m .bindings
-      go true q = no-gift (sym (over q) ∙ e)
-      go false q = leb-false (m .bindings) (length (bound (t .levels))) q
-
-  tree-is : withLevels t (alter (withBinding x) (t .levels) (scopeOf p)) ≡ u
-  tree-is = gives-same (sym within ∙ e)
-    where
-      within : bind m t p h ≡ gives (withLevels t (alter (withBinding x) (t .levels) (scopeOf p)))
-      within = full ∙ rw (lt-leb (m .bindings) (length (bound (t .levels))) room)
+  free = free-slot (lastOf p) (isLive t) x (f .b) (counts (take (spot .0) ls)) refl (f .valid .0 .ordered)
+      (ap (λ (l : Level). isBound (lastOf p) (l .bindings)) (gives-same (sym (f .found) ∙ made .there)) ∙ made .free)
 
   deep-enough : f .rank < m .components
-  deep-enough = omega (arith, f .deep, length-take-le (length p - 1) p (omega arith), g .short, more)
+  deep-enough = omega (arith, f .deep, length-take-le (length p - 1) p (omega arith), g .short, made .more)
 
   -- one binding more
   pub bind-valid : Whole m u
   unfolding new withBinding
   bind-valid =
-      subst (Whole m) tree-is
+      subst (Whole m) (sym (made .is))
       (record {
-        rooted = alter-some (withBinding x) (λ s u b k n. refl) (t .levels) (scopeOf p) (w .rooted);
+        rooted = subst (λ (q : List ℕ). some (alter (withBinding x) (t .levels) q) ≡ true) (sym (o .scope)) (alter-some (withBinding x) (t .levels) (o .first) (o .middle) (λ e s u b k n. refl) (w .rooted));
         forest = bound-valid m t w hm ls (map bindWord (bound (t .levels)) ++ replicate 0 0) 0 0 refl refl (scopeOf p) (spot .0) f (lastOf p) x (free .0) (free .1)
-            (g .named more) live deep-enough room cap;
+            (g .named (made .more)) live deep-enough (made .room) cap;
         levels = rw (same-count m t w (omega (arith, hm)) ls (map bindWord (bound (t .levels)) ++ replicate 0 0) 0 0 refl refl (scopeOf p) (spot .0) f (lastOf p) x (free .0) (free .1)) (w .levels);
-        bindings = rw (one-bound m t w (omega (arith, hm)) ls (map bindWord (bound (t .levels)) ++ replicate 0 0) 0 0 refl refl (scopeOf p) (spot .0) f (lastOf p) x (free .0) (free .1)) room;
+        bindings = rw (one-bound m t w (omega (arith, hm)) ls (map bindWord (bound (t .levels)) ++ replicate 0 0) 0 0 refl refl (scopeOf p) (spot .0) f (lastOf p) x (free .0) (free .1)) (made .room);
         objects = w .objects;
       })
 
@@ -241,7 +177,7 @@ set-value-valid m t u h v w e = go (ltb h (length (t .objects))) refl e
     go : (x : Bool) → ltb h (length (t .objects)) ≡ x → cond x (gives (withObjects t (set (t .objects) h v))) (refuses 21 0) ≡ gives u → Whole m u
     go true q e =
         subst (Whole m) (gives-same e) (objects-valid m t (set (t .objects) h v) w (omega (arith, length-set (t .objects) h v)) (omega (arith, length-set (t .objects) h v, w .objects)))
-    go false q e = no-gift e
+    go false q e = refuses-not e
 
 -- what a path is bound to was handed out
 pub look-up-live : (m : Limits) (t : Tree) (p : List ℕ) (h : ℕ) → Whole m t → lookUp t p ≡ gives h → isLive t h ≡ true
@@ -251,10 +187,10 @@ look-up-live m t p h w e = go (leb (length p) 1) e
     found : (a : Answer Level) → levelAt 0 (t .levels) (scopeOf p) ≡ a → andThen a (λ l. Rattle.table.specs.Edits.handleIn (lastOf p) (l .bindings)) ≡ gives h → isLive t h ≡ true
     found (gives l) q e =
         handle-live (isLive t) 0 (lastOf p) h (l .bindings) (level-stands (m .components) (isLive t) (t .levels) 0 0 0 (scopeOf p) l (w .forest) q .fits .ordered) e
-    found (refuses a b) q e = no-gift e
+    found (refuses a b) q e = refuses-not e
 
     go : (x : Bool) → cond x (refuses 13 0) (andThen (levelAt 0 (t .levels) (scopeOf p)) (λ l. Rattle.table.specs.Edits.handleIn (lastOf p) (l .bindings))) ≡ gives h → isLive t h ≡ true
-    go true e = no-gift e
+    go true e = refuses-not e
     go false e = found (levelAt 0 (t .levels) (scopeOf p)) refl e
 
 module _ (m : Limits) (t : Tree) (w : Whole m t) (cap : m .bindings < 1024) (hm : m .objects ≤ 2 ^ 32) where
@@ -265,11 +201,11 @@ module _ (m : Limits) (t : Tree) (w : Whole m t) (cap : m .bindings < 1024) (hm 
       tied : (h : ℕ) (a : Answer Tree) → lookUp t q ≡ gives h → bind m t p h ≡ a → andThen a (λ u. gives (record { tree = u; value = h })) ≡ gives e → Whole m (e .tree)
       tied h (gives u) l b d =
           subst (Whole m) (ap (λ (y : Edited ℕ). y .tree) (gives-same d)) (bind-valid m t u p h w g (look-up-live m t q h w l) cap hm b)
-      tied h (refuses n k) l b d = no-gift d
+      tied h (refuses n k) l b d = refuses-not d
 
       aim : (a : Answer ℕ) → lookUp t q ≡ a → andThen a (λ h. andThen (bind m t p h) (λ u. gives (record { tree = u; value = h }))) ≡ gives e → Whole m (e .tree)
       aim (gives h) l d = tied h (bind m t p h) l refl d
-      aim (refuses n k) l d = no-gift d
+      aim (refuses n k) l d = refuses-not d
 
   -- a binding does not depend on the objects
   bind-same : (p : List ℕ) (h : ℕ) (vs : List ℕ) (u : Tree) → bind m t p h ≡ gives u → bind m (withObjects t vs) p h ≡ gives (withObjects u vs)
@@ -281,17 +217,17 @@ module _ (m : Limits) (t : Tree) (w : Whole m t) (cap : m .bindings < 1024) (hm 
 
       last : (x y : Bool) → cond x (refuses 17 0) (cond y (refuses 19 0) (gives (withLevels t new-levels))) ≡ gives u
           → cond x (refuses 17 0) (cond y (refuses 19 0) (gives (record { levels = new-levels; objects = vs }))) ≡ gives (withObjects u vs)
-      last true y e = no-gift e
-      last false true e = no-gift e
+      last true y e = refuses-not e
+      last false true e = refuses-not e
       last false false e = ap (λ (z : Tree). gives (withObjects z vs)) (gives-same e)
 
       go : (x : Bool) (a : Answer Level)
           → cond x (refuses 13 0) (andThen a (λ l. cond (isBound (lastOf p) (l .bindings)) (refuses 17 0) (cond (leb (m .bindings) (length (bound (t .levels)))) (refuses 19 0) (gives (withLevels t new-levels))))) ≡ gives u
           → cond x (refuses 13 0) (andThen a (λ l. cond (isBound (lastOf p) (l .bindings)) (refuses 17 0) (cond (leb (m .bindings) (length (bound (t .levels)))) (refuses 19 0) (gives (record { levels = new-levels; objects = vs })))))
           ≡ gives (withObjects u vs)
-      go true a e = no-gift e
+      go true a e = refuses-not e
       go false (gives l) e = last (isBound (lastOf p) (l .bindings)) (leb (m .bindings) (length (bound (t .levels)))) e
-      go false (refuses n k) e = no-gift e
+      go false (refuses n k) e = refuses-not e
 
   pub add-value-valid : (p : List ℕ) (v : ℕ) (e : Edited ℕ) → GoodKeys (m .components) p → addValue m t p v ≡ gives e → Whole m (e .tree)
   unfolding addValue
@@ -305,7 +241,7 @@ module _ (m : Limits) (t : Tree) (w : Whole m t) (cap : m .bindings < 1024) (hm 
 
       room : (u : Tree) → bind m t p (nextHandle t) ≡ gives u → (x : Bool) → leb (m .objects) (length (t .objects)) ≡ x
           → cond x (refuses 20 0) (gives (record { tree = withObjects u (t .objects ++ (v ∷ [])); value = nextHandle t })) ≡ gives e → Whole m (e .tree)
-      room u b true q d = no-gift d
+      room u b true q d = refuses-not d
       room u b false q d =
           subst (Whole m) (ap (λ (y : Edited ℕ). y .tree) (gives-same d))
           (bind-valid m (withObjects t (t .objects ++ (v ∷ []))) (withObjects u (t .objects ++ (v ∷ []))) p (nextHandle t)
@@ -315,7 +251,7 @@ module _ (m : Limits) (t : Tree) (w : Whole m t) (cap : m .bindings < 1024) (hm 
       tied : (a : Answer Tree) → bind m t p (nextHandle t) ≡ a
           → andThen a (λ u. cond (leb (m .objects) (length (t .objects))) (refuses 20 0) (gives (record { tree = withObjects u (t .objects ++ (v ∷ [])); value = nextHandle t }))) ≡ gives e → Whole m (e .tree)
       tied (gives u) b d = room u b (leb (m .objects) (length (t .objects))) refl d
-      tied (refuses n k) b d = no-gift d
+      tied (refuses n k) b d = refuses-not d
 
 -- The search.
 
@@ -335,13 +271,13 @@ pub record Innermost {A : Type 0} (ask : List Component → Answer A) (ns : List
 
 module _ {A : Type 0} (ask : List Component → Answer A) (x y : ℕ) (ns : List Component) where
   refuses-of : (a : Answer A) (n p : ℕ) → a ≡ refuses n p → Refuses a
-  refuses-of (gives a) n p e = no-gift (sym e)
+  refuses-of (gives a) n p e = refuses-not (sym e)
   refuses-of (refuses m q) n p e = tt
 
   -- the binding found is the innermost, every scope nearer has none, and the scopes asked are those from the first asked down to it
   search-found : (n k : ℕ) (f : Found A) → outward ask (refuses x y) ns n k ≡ gives f → (h : Innermost ask ns n f) × (f .asked ≡ k + (n - h .depth) + 1)
   unfolding outward
-  search-found zero k f e = no-gift e
+  search-found zero k f e = refuses-not e
   search-found (suc n) k f e = go (ask (take (suc n) ns)) refl (search-found n (suc k) f) e
     where
       far : (a : Answer A) → ask (take (suc n) ns) ≡ a → Refuses a → (h : Innermost ask ns n f) × (f .asked ≡ suc k + (n - h .depth) + 1) → (h : Innermost ask ns (suc n) f) × (f .asked ≡ k + (suc n - h .depth) + 1)
@@ -407,7 +343,7 @@ module _ {A : Type 0} (ask : List Component → Answer A) (x y : ℕ) (ns : List
     where
       go : (a : Answer A) → ask (take (suc n) ns) ≡ a → (outward ask (refuses x y) ns n (suc k) ≡ refuses x y → (i : ℕ) → 0 < i → i ≤ n → Refuses (ask (take i ns)))
           → orOn a (take (suc n) ns) (suc k) (outward ask (refuses x y) ns n (suc k)) ≡ refuses x y → (u : Bool) → ltb n i ≡ u → Refuses (ask (take i ns))
-      go (gives v) q f e u l = no-gift (sym e)
+      go (gives v) q f e u l = refuses-not (sym e)
       go (refuses a b) q f e true l =
           let s : i ≡ suc n = omega (arith, ltb-true n i l) in
           subst (λ (v : ℕ). Refuses (ask (take v ns))) (sym s) (refuses-of (ask (take (suc n) ns)) a b q)

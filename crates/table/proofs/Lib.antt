@@ -10,6 +10,7 @@ pub mod Whole
 pub mod Memory
 pub mod Turns
 pub mod Objects
+pub mod Levels
 pub mod Seek
 pub mod Focus
 pub mod Moves

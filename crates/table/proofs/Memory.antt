@@ -8,7 +8,7 @@ use lib.Dec.{eqb}
 use lib.ListN.{length, take, drop, getD, replicate, length-append, length-drop, take-append-drop}
 use lib.Seq.{take-at, drop-at, getD-drop, length-take-le, drop-drop}
 use borrow.Author.Tests.{eq-eqb, eqb-true}
-use Rattle.pkg_length.proofs.Answers.{halves}
+use Rattle.pkg_length.proofs.Answers.{halves, never, wrong}
 use Rattle.pkg_length.specs.Refusal.{gives, refuses}
 use Rattle.table.proofs.Facts.{plus-zero}
 use Rattle.table.specs.Limits.{Limits}
@@ -18,7 +18,7 @@ use Rattle.table.specs.Valid.{valid}
 use Rattle.table.specs.Memory.{siblings, decode, same, wellFormed, means, size}
 use Rattle.table.specs.Inside.{partsOk}
 use Rattle.table.proofs.Words.{bindings-back}
-use Rattle.table.proofs.Shape.{clash, Small, Valid}
+use Rattle.table.proofs.Shape.{Small, Valid}
 use Rattle.table.proofs.Decode.{siblings-flat, below-spare}
 use Rattle.table.proofs.Whole.{Whole, valid-whole, whole-valid, Held, length-pad, length-words, parts-held, held-parts, small-handles}
 
@@ -30,8 +30,8 @@ same-refl (x ∷ xs) = rw (eq-eqb x x refl) (same-refl xs)
 pub same-true : (xs ys : List ℕ) → same xs ys ≡ true → xs ≡ ys
 unfolding same
 same-true [] [] h = refl
-same-true [] (y ∷ ys) h = clash (sym h)
-same-true (x ∷ xs) [] h = clash (sym h)
+same-true [] (y ∷ ys) h = never h
+same-true (x ∷ xs) [] h = never h
 same-true (x ∷ xs) (y ∷ ys) h = let g = halves (eqb x y) (same xs ys) h in ap₂ {C = List ℕ} _∷_ (eqb-true x y (g .0)) (same-true xs ys (g .1))
 
 -- the words of a tree, part by part
@@ -218,5 +218,5 @@ module _ (m : Limits) (hm : m .objects ≤ 2 ^ 32) (ws : List ℕ) where
       go true true false a b c = sym c ∙ passes-formed (eqb-true _ _ a) b
       go true false true a b c = sym (formed-passes c .1) ∙ b
       go true false false a b c = refl
-      go false y true a b c = clash (sym (eq-eqb _ _ (formed-passes c .0)) ∙ a)
+      go false y true a b c = wrong (eq-eqb _ _ (formed-passes c .0)) a
       go false y false a b c = refl

@@ -8,12 +8,13 @@ use lib.Dec.{ltb, eqb}
 use lib.ListN.{length, take, length-append}
 use lib.Seq.{take-at, getD-at, length-take-le}
 use borrow.Author.Tests.{lt-leb, le-ltb, ltb-true, ltb-false, eqb-true}
+use Rattle.pkg_length.proofs.Answers.{gives-same}
 use Rattle.pkg_length.specs.Refusal.{Answer, gives, refuses, andThen}
 use Rattle.name_object.specs.Component.{Component}
 use Rattle.table.specs.Limits.{Limits}
 use Rattle.table.specs.Tree.{Binding, Forest, none, level, Tree, Level, key, keys, isLive}
 use Rattle.table.specs.Valid.{rising}
-use Rattle.table.specs.Edits.{levelAt, scopeOf, lastOf, handleIn, lookUp}
+use Rattle.table.specs.Edits.{reached, levelAt, scopeOf, lastOf, handleIn, lookUp}
 use Rattle.table.specs.Search.{Found, orOn, outward, valueIn}
 use Rattle.table.proofs.Shape.{Valid, level-tests, binding-tests, LevelFit}
 use Rattle.table.proofs.Whole.{Whole}
@@ -200,24 +201,17 @@ module _ (limit : ℕ) (live : ℕ → Bool) where
   unfolding levelAt
   level-stands none r lo n p l v e = absurd (let z : _≡_ {A = ℕ} 0 1 = cc in omega arith)
   level-stands (level s′ t b kids next) r lo n [] l v e = absurd (let z : _≡_ {A = ℕ} 0 1 = cc in omega arith)
-  level-stands (level s′ t b kids next) r lo n (x ∷ []) l v e = go (eqb s′ x) (level-stands next r (suc s′) n (x ∷ []) l (v .2)) e
-    where
-      go : (y : Bool) → (levelAt n next (x ∷ []) ≡ gives l → Stands (r + 1) l) → cond y (gives (record { segment = s′; typ = t; bindings = b; children = kids })) (levelAt n next (x ∷ [])) ≡ gives l
-          → Stands (r + 1) l
-      go true i e =
-          let d : record { segment = s′; typ = t; bindings = b; children = kids } ≡ l = cc in
-          subst (Stands (r + 1)) d (rw (add-one r) (record { lo = lo; fits = v .0; kids = v .1 }))
-      go false i e = i e
-  level-stands (level s′ t b kids next) r lo n (x ∷ y ∷ p) l v e =
-      go (eqb s′ x) (level-stands kids (suc r) 0 (suc n) (y ∷ p) l (v .1)) (level-stands next r (suc s′) n (x ∷ y ∷ p) l (v .2)) e
+  level-stands (level s′ t b kids next) r lo n (x ∷ p) l v e =
+      go p (eqb s′ x) (λ y q. level-stands kids (suc r) 0 (suc n) (y ∷ q) l (v .1)) (level-stands next r (suc s′) n (x ∷ p) l (v .2)) e
     where
       moved : (r n : ℕ) → suc r + suc n ≡ r + suc (suc n)
       moved r n = omega arith
 
-      go : (z : Bool) → (levelAt (suc n) kids (y ∷ p) ≡ gives l → Stands (suc r + suc (length p)) l) → (levelAt n next (x ∷ y ∷ p) ≡ gives l → Stands (r + suc (suc (length p))) l)
-          → cond z (levelAt (suc n) kids (y ∷ p)) (levelAt n next (x ∷ y ∷ p)) ≡ gives l → Stands (r + suc (suc (length p))) l
-      go true i j e = subst (λ (k : ℕ). Stands k l) (moved r (length p)) (i e)
-      go false i j e = j e
+      go : (p : List ℕ) (z : Bool) → ((y : ℕ) (q : List ℕ) → levelAt (suc n) kids (y ∷ q) ≡ gives l → Stands (suc r + suc (length q)) l) → (levelAt n next (x ∷ p) ≡ gives l → Stands (r + suc (length p)) l)
+          → cond z (reached p (gives (record { segment = s′; typ = t; bindings = b; children = kids })) (levelAt (suc n) kids p)) (levelAt n next (x ∷ p)) ≡ gives l → Stands (r + suc (length p)) l
+      go [] true i j e = subst (Stands (r + 1)) (gives-same e) (rw (add-one r) (record { lo = lo; fits = v .0; kids = v .1 }))
+      go (y ∷ q) true i j e = subst (λ (k : ℕ). Stands k l) (moved r (length q)) (i y q e)
+      go p false i j e = j e
 
   -- one of the deepest rank holds nothing
   pub deep-bindings : (r : ℕ) (l : Level) → Stands r l → r ≡ limit → l .bindings ≡ []

@@ -26,8 +26,8 @@ unfolding counts
 counts-bound [] = omega arith
 counts-bound (w ∷ ws) = omega (arith, counts-bound ws)
 
-pub counts-low : (ws : List ℕ) (k : ℕ) → length ws ≤ 128 → counts (take k ws) ≤ 130944
-counts-low ws k h = omega (arith, counts-bound (take k ws), length-take k ws)
+pub counts-low : (ws : List ℕ) (k n : ℕ) → length ws ≤ n → counts (take k ws) ≤ 1023 * n
+counts-low ws k n h = omega (arith, counts-bound (take k ws), length-take k ws)
 
 -- the pass to a path
 gone-at : (ls path : List ℕ) (r j k : ℕ) → r ≡ j → j < length path → placed ls (gone (drop (suc j) path) r k) ≡ goneAt (length path) j k

@@ -20,6 +20,7 @@ use Rattle.table.proofs.Words.{rank-pack, count-pack}
 use Rattle.table.proofs.Shape.{Valid}
 use Rattle.table.proofs.Decode.{Below, below-flat, below-spare}
 use Rattle.table.proofs.Whole.{Whole, length-words}
+use Rattle.table.proofs.Levels.{alter-some}
 use Rattle.table.proofs.Seek.{seekF, lacking, lacks}
 use Rattle.table.proofs.Focus.{counts-append, counts-flat, Focus, focus}
 use Rattle.table.proofs.Insert.{weaker}
@@ -238,7 +239,7 @@ module _ (m : Limits) (t : Tree) (w : Whole m t) (p : List ℕ) (j : ℕ) (f : F
   pub removed-whole : 1 < length p → Whole m (withLevels t (alter without (t .levels) p))
   removed-whole h =
       record {
-        rooted = root-stays (t .levels) p h (w .rooted);
+        rooted = root-stays p h;
         forest = f .keeps without (unfold without in weaker (m .components) (isLive t) (f .next) (f .rank) (suc (f .seg)) (f .lo) (omega (arith, f .valid .0 .rises)) (f .valid .2));
         levels = subst (λ (x : List ℕ). length x ≤ m .levels) (sym left-levels) (out-short (m .levels) A M C ls z j (subtreeEnd ls j) level-runs level-spare level-fits at-is end-is);
         bindings = subst (λ (n : ℕ). n ≤ m .bindings) (length-words (alter without (t .levels) p))
@@ -246,15 +247,9 @@ module _ (m : Limits) (t : Tree) (w : Whole m t) (p : List ℕ) (j : ℕ) (f : F
         objects = w .objects;
       }
     where
-      root-stays : (g : Forest) (q : List ℕ) → 1 < length q → some g ≡ true → some (alter without g q) ≡ true
-      root-stays none q h k = unfold alter in k
-      root-stays (level s′ t b kids next) [] h k = absurd (omega arith)
-      root-stays (level s′ t b kids next) (x ∷ []) h k = absurd (omega arith)
-      root-stays (level s′ t b kids next) (x ∷ y ∷ q) h k = unfold alter in go (eqb s′ x)
-        where
-          go : (e : Bool) → some (cond e (level s′ t b (alter without kids (y ∷ q)) next) (level s′ t b kids (alter without next (x ∷ y ∷ q)))) ≡ true
-          go true = refl
-          go false = refl
+      root-stays : (q : List ℕ) → 1 < length q → some (alter without (t .levels) q) ≡ true
+      root-stays [] h = absurd (omega arith)
+      root-stays (x ∷ q) h = alter-some without (t .levels) x q (λ e. absurd (omega arith)) (w .rooted)
 
 -- the definition, by where the pass leads
 module _ (m : Limits) (t : Tree) (w : Whole m t) where

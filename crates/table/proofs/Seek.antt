@@ -10,7 +10,7 @@ use borrow.Author.Tests.{le-leb, lt-leb, eq-eqb, ne-eqb, eqb-true, eqb-false, lt
 use Rattle.pkg_length.specs.Refusal.{Answer, gives, refuses}
 use Rattle.table.specs.Tree.{Forest, none, level, Level}
 use Rattle.table.specs.Layout.{pack, rankOf, segOf, flat}
-use Rattle.table.specs.Edits.{levelAt}
+use Rattle.table.specs.Edits.{reached, levelAt}
 use Rattle.table.specs.Inside.{Sought, here, before, missing, gone, seekIn}
 use Rattle.table.proofs.Words.{rank-pack, seg-pack}
 use Rattle.table.proofs.Shape.{Valid}
@@ -122,10 +122,8 @@ module _ (limit : ℕ) (live : ℕ → Bool) where
   pub late : (f : Forest) (r lo n s : ℕ) (p : List ℕ) → Valid limit live r lo f → s < lo → levelAt n f (s ∷ p) ≡ refuses 15 n
   unfolding levelAt
   late none r lo n s p v h = refl
-  late (level s′ t b kids next) r lo n s [] v h =
-      rw (ne-eqb s′ s (λ e. omega (arith, v .0 .rises))) (late next r (suc s′) n s [] (v .2) (omega (arith, v .0 .rises)))
-  late (level s′ t b kids next) r lo n s (x ∷ p) v h =
-      rw (ne-eqb s′ s (λ e. omega (arith, v .0 .rises))) (late next r (suc s′) n s (x ∷ p) (v .2) (omega (arith, v .0 .rises)))
+  late (level s′ t b kids next) r lo n s p v h =
+      rw (ne-eqb s′ s (λ e. omega (arith, v .0 .rises))) (late next r (suc s′) n s p (v .2) (omega (arith, v .0 .rises)))
 
 -- what is not there, by the definition that edits go by
 abbrev pub lacking : ℕ → List ℕ → Sought → Answer Level → Type 0
@@ -147,23 +145,20 @@ module _ (limit : ℕ) (live : ℕ → Bool) where
   pub lacks : (f : Forest) (r lo s : ℕ) (p : List ℕ) (at k : ℕ) → Valid limit live (suc r) lo f → lacking r p (seekF f (s ∷ p) r at k) (levelAt r f (s ∷ p))
   unfolding seekF levelAt
   lacks none r lo s p at k v = lacking-gone p r k (refuses 15 r) refl
-  lacks (level s′ t b kids next) r lo s [] at k v = go (lacks next r (suc s′) s [] at (after kids (suc k)) (v .2)) (eqb s′ s) (ltb s s′) refl
+  lacks (level s′ t b kids next) r lo s p at k v =
+      go (inner p (λ x q. lacks kids (suc r) 0 x q k (suc k) (v .1))) (lacks next r (suc s′) s p at (after kids (suc k)) (v .2)) (eqb s′ s) (ltb s s′) refl
     where
-      go : lacking r [] (seekF next (s ∷ []) r at (after kids (suc k))) (levelAt r next (s ∷ [])) → (e d : Bool) → ltb s s′ ≡ d
-          → lacking r [] (cond e (seekF kids [] (suc r) k (suc k)) (cond d (gone [] r k) (seekF next (s ∷ []) r at (after kids (suc k)))))
-          (cond e (gives (record { segment = s′; typ = t; bindings = b; children = kids })) (levelAt r next (s ∷ [])))
-      go l true d h = rw (seek-nil kids (suc r) k (suc k)) tt
-      go l false true h = lacking-gone [] r k (levelAt r next (s ∷ [])) (late limit live next (suc r) (suc s′) r s [] (v .2) (omega (arith, ltb-true s s′ h)))
-      go l false false h = l
-  lacks (level s′ t b kids next) r lo s (x ∷ p) at k v =
-      go (lacks kids (suc r) 0 x p k (suc k) (v .1)) (lacks next r (suc s′) s (x ∷ p) at (after kids (suc k)) (v .2)) (eqb s′ s) (ltb s s′) refl
-    where
-      go : lacking (suc r) p (seekF kids (x ∷ p) (suc r) k (suc k)) (levelAt (suc r) kids (x ∷ p))
-          → lacking r (x ∷ p) (seekF next (s ∷ x ∷ p) r at (after kids (suc k))) (levelAt r next (s ∷ x ∷ p)) → (e d : Bool) → ltb s s′ ≡ d
-          → lacking r (x ∷ p) (cond e (seekF kids (x ∷ p) (suc r) k (suc k)) (cond d (gone (x ∷ p) r k) (seekF next (s ∷ x ∷ p) r at (after kids (suc k)))))
-          (cond e (levelAt (suc r) kids (x ∷ p)) (levelAt r next (s ∷ x ∷ p)))
-      go i l true d h = lacking-deeper r x p (seekF kids (x ∷ p) (suc r) k (suc k)) (levelAt (suc r) kids (x ∷ p)) i
-      go i l false true h = lacking-gone (x ∷ p) r k (levelAt r next (s ∷ x ∷ p)) (late limit live next (suc r) (suc s′) r s (x ∷ p) (v .2) (omega (arith, ltb-true s s′ h)))
+      inner : (p : List ℕ) → ((x : ℕ) (q : List ℕ) → lacking (suc r) q (seekF kids (x ∷ q) (suc r) k (suc k)) (levelAt (suc r) kids (x ∷ q)))
+          → lacking r p (seekF kids p (suc r) k (suc k)) (reached p (gives (record { segment = s′; typ = t; bindings = b; children = kids })) (levelAt (suc r) kids p))
+      inner [] i = rw (seek-nil kids (suc r) k (suc k)) tt
+      inner (x ∷ q) i = lacking-deeper r x q (seekF kids (x ∷ q) (suc r) k (suc k)) (levelAt (suc r) kids (x ∷ q)) (i x q)
+
+      go : lacking r p (seekF kids p (suc r) k (suc k)) (reached p (gives (record { segment = s′; typ = t; bindings = b; children = kids })) (levelAt (suc r) kids p))
+          → lacking r p (seekF next (s ∷ p) r at (after kids (suc k))) (levelAt r next (s ∷ p)) → (e d : Bool) → ltb s s′ ≡ d
+          → lacking r p (cond e (seekF kids p (suc r) k (suc k)) (cond d (gone p r k) (seekF next (s ∷ p) r at (after kids (suc k)))))
+          (cond e (reached p (gives (record { segment = s′; typ = t; bindings = b; children = kids })) (levelAt (suc r) kids p)) (levelAt r next (s ∷ p)))
+      go i l true d h = i
+      go i l false true h = lacking-gone p r k (levelAt r next (s ∷ p)) (late limit live next (suc r) (suc s′) r s p (v .2) (omega (arith, ltb-true s s′ h)))
       go i l false false h = l
 
 -- a longer path is missing where a part of it is
@@ -185,18 +180,17 @@ shorter-deeper r y p (missing n) long h = h
 pub shorter : (f : Forest) (r s : ℕ) (p : List ℕ) (x : ℕ) (q : List ℕ) (at k : ℕ) → Shorter r p (seekF f (s ∷ p) r at k) (seekF f (s ∷ (p ++ (x ∷ q))) r at k)
 unfolding seekF
 shorter none r s p x q at k = shorter-gone p x q r k
-shorter (level s′ t b kids next) r s [] x q at k = go (shorter next r s [] x q at (after kids (suc k))) (eqb s′ s) (ltb s s′)
+shorter (level s′ t b kids next) r s p x q at k = go (inner p (λ y p. shorter kids (suc r) y p x q k (suc k))) (shorter next r s p x q at (after kids (suc k))) (eqb s′ s) (ltb s s′)
   where
-    go : Shorter r [] (seekF next (s ∷ []) r at (after kids (suc k))) (seekF next (s ∷ x ∷ q) r at (after kids (suc k))) → (e d : Bool) → Shorter r [] (cond e (seekF kids [] (suc r) k (suc k)) (cond d (gone [] r k) (seekF next (s ∷ []) r at (after kids (suc k)))))
-        (cond e (seekF kids (x ∷ q) (suc r) k (suc k)) (cond d (gone (x ∷ q) r k) (seekF next (s ∷ x ∷ q) r at (after kids (suc k)))))
-    go l true d = rw (seek-nil kids (suc r) k (suc k)) tt
-    go l false true = shorter-gone [] x q r k
-    go l false false = l
-shorter (level s′ t b kids next) r s (y ∷ p) x q at k = go (shorter kids (suc r) y p x q k (suc k)) (shorter next r s (y ∷ p) x q at (after kids (suc k))) (eqb s′ s) (ltb s s′)
-  where
-    go : Shorter (suc r) p (seekF kids (y ∷ p) (suc r) k (suc k)) (seekF kids (y ∷ (p ++ (x ∷ q))) (suc r) k (suc k))
-        → Shorter r (y ∷ p) (seekF next (s ∷ y ∷ p) r at (after kids (suc k))) (seekF next (s ∷ y ∷ (p ++ (x ∷ q))) r at (after kids (suc k))) → (e d : Bool) → Shorter r (y ∷ p) (cond e (seekF kids (y ∷ p) (suc r) k (suc k)) (cond d (gone (y ∷ p) r k) (seekF next (s ∷ y ∷ p) r at (after kids (suc k)))))
-        (cond e (seekF kids (y ∷ (p ++ (x ∷ q))) (suc r) k (suc k)) (cond d (gone (y ∷ (p ++ (x ∷ q))) r k) (seekF next (s ∷ y ∷ (p ++ (x ∷ q))) r at (after kids (suc k)))))
-    go i l true d = shorter-deeper r y p (seekF kids (y ∷ p) (suc r) k (suc k)) (seekF kids (y ∷ (p ++ (x ∷ q))) (suc r) k (suc k)) i
-    go i l false true = shorter-gone (y ∷ p) x q r k
+    inner : (p : List ℕ) → ((y : ℕ) (p : List ℕ) → Shorter (suc r) p (seekF kids (y ∷ p) (suc r) k (suc k)) (seekF kids (y ∷ (p ++ (x ∷ q))) (suc r) k (suc k)))
+        → Shorter r p (seekF kids p (suc r) k (suc k)) (seekF kids (p ++ (x ∷ q)) (suc r) k (suc k))
+    inner [] i = rw (seek-nil kids (suc r) k (suc k)) tt
+    inner (y ∷ p) i = shorter-deeper r y p (seekF kids (y ∷ p) (suc r) k (suc k)) (seekF kids (y ∷ (p ++ (x ∷ q))) (suc r) k (suc k)) (i y p)
+
+    go : Shorter r p (seekF kids p (suc r) k (suc k)) (seekF kids (p ++ (x ∷ q)) (suc r) k (suc k))
+        → Shorter r p (seekF next (s ∷ p) r at (after kids (suc k))) (seekF next (s ∷ (p ++ (x ∷ q))) r at (after kids (suc k))) → (e d : Bool)
+        → Shorter r p (cond e (seekF kids p (suc r) k (suc k)) (cond d (gone p r k) (seekF next (s ∷ p) r at (after kids (suc k)))))
+        (cond e (seekF kids (p ++ (x ∷ q)) (suc r) k (suc k)) (cond d (gone (p ++ (x ∷ q)) r k) (seekF next (s ∷ (p ++ (x ∷ q))) r at (after kids (suc k)))))
+    go i l true d = i
+    go i l false true = shorter-gone p x q r k
     go i l false false = l

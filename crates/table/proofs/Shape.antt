@@ -12,9 +12,6 @@ use Rattle.table.specs.Tree.{Binding, Forest, none, level}
 use Rattle.table.specs.Valid.{segmentOk, rising, nameOk, countOk, levelOk, forestOk}
 use Rattle.table.proofs.Numbers.{segment-range}
 
-pub clash : {A : Type 0} → true ≡ false → A
-clash e = absurd (let z : _≡_ {A = ℕ} 0 1 = cc in omega arith)
-
 -- live handles fit their field of a word
 abbrev pub Small : (ℕ → Bool) → Type 0
 Small live = (h : ℕ) → live h ≡ true → h < 2 ^ 32

@@ -9,6 +9,7 @@ use lib.Dec.{ltb, eqb}
 use lib.ListN.{length, take, drop, getD}
 use lib.Seq.{slice, slice-cons, slice-empty}
 use borrow.Author.Tests.{ltb-true, ltb-false, eqb-false, lt-ltb, le-ltb, eq-eqb, ne-eqb}
+use Rattle.pkg_length.proofs.Answers.{wrong}
 use Rattle.pkg_length.specs.Refusal.{gives, refuses}
 use Rattle.table.proofs.Shape.{BindingTests, binding-tests, tests-binding}
 use Rattle.table.specs.Tree.{Binding}
@@ -132,6 +133,14 @@ module _ (s : ℕ) where
             clear = rw p (g .clear);
             up = λ n h k. rw (same, y) (tests-binding live lo b _ (record { rises = t .rises; named = t .named; alive = t .alive; later = g .up n h (omega (arith, ltb-false s (b .segment) y, eqb-false (b .segment) s p)) }));
           }
+
+-- a segment that is not bound has its place
+pub free-slot : (s : ℕ) (live : ℕ → Bool) (x : Binding) (b : List Binding) (i : ℕ) → x .segment ≡ s → rising live 0 b ≡ true → isBound s b ≡ false → (j : ℕ) × FreeAt s live 0 x b i j
+free-slot s live x b i q r n = go (slotIn s b i) refl
+  where
+    go : (a : Slot) → slotIn s b i ≡ a → (j : ℕ) × FreeAt s live 0 x b i j
+    go (Slot.Bound h) e = wrong (slot-bound s b i h e .1) n
+    go (Slot.Free j) e = (j, slot-free s live 0 x b i j q r e)
 
 -- what a turn of the loop does
 pub slot-start : (s f n : ℕ) (l : List ℕ) → f ≤ length l → slotIn s (map bindingOf (slice f (f + n) l)) f ≡ slotIn s (map bindingOf (take n (drop f l))) f

@@ -8,7 +8,7 @@ use lib.Dec.{eqb, leb}
 use lib.ListN.{length, take, drop, getD, replicate, length-append, length-replicate, length-map, take-append-drop}
 use lib.Seq.{drop-at, length-take-le}
 use borrow.Author.Tests.{ne-eqb, le-leb, eqb-false, leb-true, ltb-true}
-use Rattle.pkg_length.proofs.Answers.{halves}
+use Rattle.pkg_length.proofs.Answers.{halves, never}
 use Rattle.name_object.specs.Memory.{allZero}
 use Rattle.table.proofs.Facts.{getD-zeros}
 use Rattle.table.specs.Limits.{Limits}
@@ -16,7 +16,7 @@ use Rattle.table.specs.Tree.{Binding, Forest, none, level, Tree, bound, 
 use Rattle.table.specs.Layout.{pack, bindWord, flat, pad}
 use Rattle.table.specs.Valid.{forestOk, some, valid}
 use Rattle.table.specs.Inside.{scan, lowest, objectsOk, partsOk, below}
-use Rattle.table.proofs.Shape.{clash, Valid, forest-valid, valid-forest, Small}
+use Rattle.table.proofs.Shape.{Valid, forest-valid, valid-forest, Small}
 use Rattle.table.proofs.Sound.{sibs, unwind, unwindB, Good, sound, zeros-are}
 use Rattle.table.proofs.Complete.{complete, zeros-spare, scan-spare}
 
@@ -153,13 +153,13 @@ module _ (m : Limits) (ls bs : List ℕ) (ll : length ls ≡ m .levels) (lb : le
       (_, held-tree m ls bs n vs ll lb (omega arith) (leb-true _ _ (b .0)) (b .1) (not-first (eqb (getD ls 0 0) 0) refl (d .1)) (sound (m .components) (below n) ls 0 (lowest (m .components)) bs (length-lowest (m .components)) (a .1)))
     where
       not-first : (x : Bool) → eqb (getD ls 0 0) 0 ≡ x → not x ≡ true → getD ls 0 0 ≡ 0 → ⊥
-      not-first true e h = clash (sym h)
+      not-first true e h = never h
       not-first false e h = eqb-false _ _ e
 
 -- a tree's parts pass
 pos-head : (f : Forest) (z : ℕ) → some f ≡ true → (getD (flat 1 f ++ replicate z 0) 0 0 ≡ 0 → ⊥)
 unfolding flat pack
-pos-head none z h = clash (sym h)
+pos-head none z h = never h
 pos-head (level s t b kids next) z h = λ e. omega arith
 
 module _ (m : Limits) (t : Tree) (hm : m .objects ≤ 2 ^ 32) (w : Whole m t) (y z : ℕ) where

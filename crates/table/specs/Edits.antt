@@ -9,12 +9,17 @@ use Rattle.table.specs.Limits.{Limits}
 use Rattle.table.specs.Tree.{Binding, Forest, none, level, Tree, Level, isLive, bound, levelCount}
 use Rattle.table.specs.Memory.{Edited}
 
+-- where a path ends, and where it goes on
+abbrev pub reached : {A : Type 0} → List ℕ → A → A → A
+reached [] here on = here
+reached (s ∷ p) here on = on
+
 -- the level at a path; 15 at the segment that has none, n segments being behind
 unfoldable pub levelAt : ℕ → Forest → List ℕ → Answer Level
 levelAt n none p = refuses 15 n
 levelAt n (level s′ t b kids next) [] = refuses 15 n
-levelAt n (level s′ t b kids next) (s ∷ []) = cond (eqb s′ s) (gives (record { segment = s′; typ = t; bindings = b; children = kids })) (levelAt n next (s ∷ []))
-levelAt n (level s′ t b kids next) (s ∷ (x ∷ p)) = cond (eqb s′ s) (levelAt (suc n) kids (x ∷ p)) (levelAt n next (s ∷ (x ∷ p)))
+levelAt n (level s′ t b kids next) (s ∷ p) =
+    cond (eqb s′ s) (reached p (gives (record { segment = s′; typ = t; bindings = b; children = kids })) (levelAt (suc n) kids p)) (levelAt n next (s ∷ p))
 
 -- what becomes of a level and its later siblings
 abbrev pub Change : Type 0
@@ -24,9 +29,8 @@ Change = ℕ → ℕ → List Binding → Forest → Forest → Forest
 unfoldable pub alter : Change → Forest → List ℕ → Forest
 alter change none p = none
 alter change (level s′ t b kids next) [] = level s′ t b kids next
-alter change (level s′ t b kids next) (s ∷ []) = cond (eqb s′ s) (change s′ t b kids next) (level s′ t b kids (alter change next (s ∷ [])))
-alter change (level s′ t b kids next) (s ∷ (x ∷ p)) =
-    cond (eqb s′ s) (level s′ t b (alter change kids (x ∷ p)) next) (level s′ t b kids (alter change next (s ∷ (x ∷ p))))
+alter change (level s′ t b kids next) (s ∷ p) =
+    cond (eqb s′ s) (reached p (change s′ t b kids next) (level s′ t b (alter change kids p) next)) (level s′ t b kids (alter change next (s ∷ p)))
 
 -- the path of the level that a path's last segment stands in, and that segment; `\` has none
 abbrev pub scopeOf : List ℕ → List ℕ

@@ -46,7 +46,7 @@ add-m : tie.Need-add-m Inv-loop μ-loop
 add-m c =
     let l = c .before .before .before .before .before .loop in
     let a = c .before .before .before .before .before .before .before .before .args in
-    omega (arith, l .inv .2, counts-low (a .levels .now) (l .k) (c .before .before .before .before .before .before .before .before .pre))
+    omega (arith, l .inv .2, counts-low (a .levels .now) (l .k) 128 (c .before .before .before .before .before .before .before .before .pre))
 
 loop-again : tie.Need-loop-again Inv-loop μ-loop
 loop-again c =
