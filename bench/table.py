@@ -62,10 +62,14 @@ class Table:
         both = [r["row"] for r in self.rows if r["kind"] == "both"]
         ahead = sum(self.ratio(r) >= 1 for r in both)
         apart = [r["row"] for r in self.rows if r["kind"] == "apart"]
+        checks = [r for r in apart if r.startswith("check ")]
         said = "%d rows in which both sides answer the same call: the port is ahead on %d and behind on %d." % (len(both), ahead, len(both) - ahead)
-        if apart:
+        if checks:
             said += " Apart from these, %d rows of the check, which the Rust has not: it runs the block (%s to %s times the check)." % (
-                len(apart), figure(min(map(self.ratio, apart))), figure(max(map(self.ratio, apart))))
+                len(checks), figure(min(map(self.ratio, checks))), figure(max(map(self.ratio, checks))))
+        for r in apart:
+            if r not in checks:
+                said += " Apart too: %s, %s times." % (r, figure(self.ratio(r)))
         return said
 
 
@@ -123,7 +127,7 @@ def instructions():
         b, t, others = *drawn_sets().values(), after[1:]
         heads = ["row", "port, before", "port, after", "Rust", "Rust / port, before", "after"] + ["after, by rustc " + o.version for o in others]
         rows = ([r["row"], figure(b.of[r["row"]][0], b.unit) if r["row"] in b.of else "", *(figure(x, t.unit) for x in t.of[r["row"]]),
-                 verdict(b, r) if r["row"] in b.of else "", verdict(t, r)] + [verdict(o, r) for o in others] for r in t.rows)
+                 verdict(b, r) if r["row"] in b.of else "", verdict(t, r)] + [verdict(o, r) if r["row"] in o.of else "" for o in others] for r in t.rows)
     for name, sets in (("Before", before), ("After", after)):
         for s in sets:
             yield "- %s: %s" % (name, "; ".join(s.about))
@@ -177,7 +181,7 @@ def ratio_plot(drawn):
     bottom = top + each * len(newest.rows)
     title = "Instructions: how many times as many the Rust takes"
     parts = [text(16, 26, title, 16, more=' font-weight="bold"'),
-             text(16, 46, "right of 1 the port is ahead, left of 1 behind; grey: the Rust has no check and runs the block; rustc %s" % newest.version, 12, fill=GREY)]
+             text(16, 46, "right of 1 the port is ahead, left of 1 behind; grey: the Rust has no check, and no 32 bits; rustc %s" % newest.version, 12, fill=GREY)]
     for p in range(low, high + 1):
         parts.append(line(at(10 ** p), top, at(10 ** p), bottom, INK if p == 0 else PALE))
         parts.append(text(at(10 ** p), bottom + 16, "%g" % 10 ** p, 11, "middle", GREY))

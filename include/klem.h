@@ -54,14 +54,14 @@ extern "C" {
 /* The version of this interface. A new number or a new call changes MINOR; what a program must be changed for changes MAJOR, or MINOR
  * while MAJOR is 0. */
 #define KLEM_VERSION_MAJOR 0
-#define KLEM_VERSION_MINOR 3
+#define KLEM_VERSION_MINOR 4
 #define KLEM_VERSION_PATCH 0
 
 /* Lengths of slices */
 #define KLEM_RESULT 8            /* words of a result */
 #define KLEM_PATH 130            /* bytes of a path: two for the count, 128 for the components */
 #define KLEM_TABLE 1153          /* words of a table: 128 levels, 512 bindings, the count of objects, 512 objects */
-#define KLEM_FRAME 30            /* words of a frame: 15 flags, 15 numbers */
+#define KLEM_FRAME 31            /* words of a frame: 15 flags, 15 numbers, their width */
 #define KLEM_SEGMENT 4           /* bytes of a segment, and of a signature */
 #define KLEM_HEADER_REST 26      /* bytes 10 to 35 of a header */
 #define KLEM_COMPONENT_BYTES 128 /* bytes of all components of a path */
@@ -116,6 +116,7 @@ extern "C" {
 #define KLEM_BAD_SLICE 1001 /* a slice whose length is fixed has another; nothing is written */
 #define KLEM_BAD_TYPE 1002  /* a level's type is over 5 */
 #define KLEM_BAD_CELL 1003  /* klem_frame_set of a cell over 14, its place; the frame stays as it was */
+#define KLEM_BAD_WIDTH 1004 /* a width that is neither 32 nor 64, its place; the frame stays as it was */
 
 /* Signatures of a whole table */
 #define KLEM_DSDT 0
@@ -139,6 +140,11 @@ extern "C" {
 #define KLEM_LOCAL0 0
 #define KLEM_ARG0 8
 #define KLEM_CELLS 15
+
+/* The width of a frame: which word holds it, and what it may be */
+#define KLEM_WIDTH_AT 30
+#define KLEM_BITS32 32
+#define KLEM_BITS64 64
 
 /* Package lengths. The readers share a limit of 65,536 bytes */
 
@@ -228,8 +234,14 @@ uint64_t klem_search_for_level(const uint64_t *table, size_t table_len, const ui
 
 /* Control blocks, of at most 65,536 bytes, and frames.
  * A frame has KLEM_CELLS cells: from KLEM_LOCAL0 eight Locals, from KLEM_ARG0 seven Args. Word c is 0 where cell c is unset, and
- * anything else where it is set; word KLEM_CELLS + c is its number. So any words are a frame. A call that writes a frame writes 0 or 1
- * for each of the first KLEM_CELLS words. */
+ * anything else where it is set; word KLEM_CELLS + c is its number; word KLEM_WIDTH_AT is the width, how many bits numbers have: 32 or
+ * 64. Words with any other width are no frame: each call on them refuses by KLEM_BAD_WIDTH, before it looks at the block or the cell, and
+ * leaves them as they were. All other words may hold anything. A call that writes a frame writes 0 or 1 for each of the first KLEM_CELLS
+ * words, and keeps the width.
+ * In a frame of 32 bits all ones is 2^32 - 1, wrapping is at 2^32, and an eight-byte constant keeps its low 32 bits. A larger number of a
+ * cell keeps its low 32 bits from the moment that execution begins: so also where the block is empty, and where a budget of 0 is spent
+ * at once, but not where the block is refused. The words of unset cells, which no call gives, are cut then too. klem_frame_set and
+ * klem_frame_get cut nothing. */
 
 /* whether the grammar derives the block. refuses: 5, and 1 to 4 from left to right */
 uint64_t klem_check(const uint8_t *block, size_t block_len, uint64_t *result, size_t result_len);
@@ -237,13 +249,17 @@ uint64_t klem_check(const uint8_t *block, size_t block_len, uint64_t *result, si
  * values: how it ended (KLEM_FINISHED to KLEM_CONTINUE), the number returned or 0, the units used.
  * On a refusal the first two are 0, and the units stand there all the same: 22 and 23 are given after part of the block has run,
  * and leave the frame as the run left it. A block that the check refuses leaves the frame as it was, word for word.
- * refuses: as klem_check, 22, 23 */
+ * refuses: KLEM_BAD_WIDTH, as klem_check, 22, 23 */
 uint64_t klem_run(const uint8_t *block, size_t block_len, uint64_t *frame, size_t frame_len, uint64_t budget, uint64_t *result, size_t result_len);
-/* every cell unset, every number 0. refuses: nothing */
-uint64_t klem_frame_new(uint64_t *frame, size_t frame_len, uint64_t *result, size_t result_len);
-/* values: the number. refuses: 23, where the cell is unset or is over 14; its place is the cell */
+/* how many bits numbers have in a DSDT of that revision: 32 below 2, else 64 */
+uint64_t klem_width_of(uint8_t revision);
+/* the same for an SSDT: its DSDT's revision decides, and its own says nothing */
+uint64_t klem_width_of_ssdt(uint8_t dsdt, uint8_t ssdt);
+/* a frame of that width: every cell unset, every number 0. refuses: KLEM_BAD_WIDTH */
+uint64_t klem_frame_new(uint64_t *frame, size_t frame_len, uint64_t width, uint64_t *result, size_t result_len);
+/* values: the number. refuses: KLEM_BAD_WIDTH, 23, where the cell is unset or is over 14; its place is the cell */
 uint64_t klem_frame_get(const uint64_t *frame, size_t frame_len, size_t cell, uint64_t *result, size_t result_len);
-/* sets a cell. refuses: KLEM_BAD_CELL */
+/* sets a cell to any number. refuses: KLEM_BAD_WIDTH, KLEM_BAD_CELL */
 uint64_t klem_frame_set(uint64_t *frame, size_t frame_len, size_t cell, uint64_t number, uint64_t *result, size_t result_len);
 
 #ifdef __cplusplus

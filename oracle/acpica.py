@@ -1,13 +1,16 @@
 #!/usr/bin/env python3
-"""Compares runs of control blocks with ACPICA, a second and independent reading of the specification.
+"""Compares runs of control blocks with ACPICA, a second and independent reading of the specification, at both widths.
 
   oracle/acpica.py KLEM [--blocks N] [--seed N]       needs acpiexec (Debian's package acpica-tools)
 
-Blocks are methods of a DSDT of revision 2. ACPICA cannot judge, and so they leave out: a cell read beside an operand that writes it (it reads cells late),
-reads of unset cells, Break and Continue outside a While, BreakPoint (it enters its debugger), and malformed blocks (it lets them pass).
-Each block ends by returning a sum over the cells that it wrote, or returns earlier.
+Blocks are methods of a DSDT, N of one of revision 2, whose numbers have 64 bits, and N of one of revision 1, whose numbers have 32: `run` and `run32` of klem,
+after `width` has said so. Of the second, every fourth is the method of an SSDT of revision 2 beside an empty DSDT of revision 1, whose width is the DSDT's.
+ACPICA cannot judge, and so they leave out: a cell read beside an operand that writes it (it reads cells late), reads of unset cells, Break and Continue outside
+a While, BreakPoint (it enters its debugger), malformed blocks (it lets them pass), and a frame that is given with numbers in it.
+Each block ends by returning a sum over the cells that it wrote, or returns earlier. Constants are often at the edges of a width.
 """
 import argparse
+import concurrent.futures
 import os
 import random
 import re
@@ -21,12 +24,14 @@ sys.path.insert(0, os.path.dirname(os.path.abspath(__file__)))
 import generate as g
 
 SIZE = 12  # blocks in one table: acpiexec takes a short command line
+AT_ONCE = 8  # acpiexec waits for a second before it ends
 CELLS = [0x60, 0x61, 0x62]
 
 
 def constant(r):
     op, n = r.choice([(0x0A, 1), (0x0B, 2), (0x0C, 4), (0x0E, 8)])
-    return r.choice([[0x00], [0x01], [0xFF], [op] + [r.choice([0, 1, 255, r.randrange(256)]) for _ in range(n)]])
+    edge = [0x0E] + list(r.choice(g.EDGES).to_bytes(8, "little"))
+    return r.choice([[0x00], [0x01], [0xFF], edge, [op] + [r.choice([0, 1, 255, r.randrange(256)]) for _ in range(n)]])
 
 
 def pure(r, deep):
@@ -73,7 +78,7 @@ def block(r):
     return b + [0xA4, 0x72, 0x60, 0x72, 0x61, 0x62, 0x00, 0x00]
 
 
-def dsdt(blocks):
+def methods(blocks):
     body = b""
     for i, code in enumerate(blocks):
         c = b"M%03X" % i + b"\x00" + bytes(code)
@@ -87,17 +92,26 @@ def dsdt(blocks):
                 size = bytes([extra << 6 | t & 15]) + bytes(t >> (4 + 8 * j) & 255 for j in range(extra))
                 break
         body += b"\x14" + size + c
-    h = bytearray(b"DSDT" + struct.pack("<IBB", 36 + len(body), 2, 0) + b"KLEM  " + b"COMPARE " + struct.pack("<I", 1) + b"KLEM" + struct.pack("<I", 1))
+    return body
+
+
+def table(signature, revision, body):
+    h = bytearray(signature + struct.pack("<IBB", 36 + len(body), revision, 0) + b"KLEM  " + b"COMPARE " + struct.pack("<I", 1) + b"KLEM" + struct.pack("<I", 1))
     h[9] = -(sum(h) + sum(body)) & 255
     return bytes(h) + body
 
 
-def acpica(blocks):
-    with tempfile.NamedTemporaryFile(suffix=".aml") as f:
-        f.write(dsdt(blocks))
-        f.flush()
+def acpica(blocks, revision, apart):
+    """what acpiexec says of the blocks, in a DSDT of that revision, or, apart, in an SSDT of revision 2 beside it"""
+    body = methods(blocks)
+    tables = [table(b"DSDT", revision, b""), table(b"SSDT", 2, body)] if apart else [table(b"DSDT", revision, body)]
+    with tempfile.TemporaryDirectory() as folder:
+        names = [os.path.join(folder, "%d.aml" % i) for i in range(len(tables))]
+        for name, t in zip(names, tables):
+            with open(name, "wb") as f:
+                f.write(t)
         commands = ";".join("evaluate \\M%03X" % i for i in range(len(blocks)))
-        said = subprocess.run(["acpiexec", "-dr", "-to", "2", "-b", commands, f.name], capture_output=True, text=True, errors="replace").stdout
+        said = subprocess.run(["acpiexec", "-dr", "-to", "2", "-b", commands] + names, capture_output=True, text=True, errors="replace").stdout
     told = [None] * len(blocks)
     for i, part in re.findall(r"Evaluating \\M([0-9A-F]{3})(.*?)(?=Evaluating \\M|\Z)", said, flags=re.S):
         m = re.search(r"\[Integer\] = ([0-9A-F]+)", part)
@@ -105,27 +119,42 @@ def acpica(blocks):
     return told
 
 
+def klem(lines):
+    return subprocess.run([ARGS.klem], input="".join(line + "\n" for line in lines), capture_output=True, text=True).stdout.split("\n")[:-1]
+
+
+def compared(revision, bits, command):
+    """the same blocks on both sides; how many differ"""
+    if klem(["width %d" % revision]) != ["ok %d" % bits]:
+        sys.exit("acpica: klem does not say %d bits of revision %d" % (bits, revision))
+    r = random.Random(ARGS.seed)
+    blocks = [block(r) for _ in range(ARGS.blocks)]
+    batches = [blocks[i:i + SIZE] for i in range(0, len(blocks), SIZE)]
+    apart = [bits == 32 and i % 4 == 3 for i in range(len(batches))]
+    with concurrent.futures.ThreadPoolExecutor(AT_ONCE) as pool:
+        theirs = [told for batch in pool.map(acpica, batches, [revision] * len(batches), apart) for told in batch]
+    asked = [g.hexed(b) for b in blocks]
+    ports, wide = ([said.split(" units ")[0] for said in klem("%s 5000 %s" % (c, h) for h in asked)] for c in (command, "run"))
+    equal = spent = 0
+    bad = []
+    for h, port, there in zip(asked, ports, theirs):
+        if port.startswith("refused 22 "):
+            spent += 1
+        elif port == there:
+            equal += 1
+        else:
+            bad.append((h, port, there))
+    print("%d bits: blocks %d, equal %d, budget spent %d, different %d; %d end otherwise in 64 bits; %d in an SSDT" % (
+        bits, len(blocks), equal, spent, len(bad), sum(a != b for a, b in zip(ports, wide)), sum(len(b) for b, a in zip(batches, apart) if a)), flush=True)
+    for b in sorted(bad, key=lambda x: len(x[0]))[:10]:
+        print("DIFFERENT %s\n  port   %s\n  ACPICA %s" % b)
+    return len(bad)
+
+
 def main():
     if not shutil.which("acpiexec"):
         sys.exit("acpica: acpiexec is missing (Debian's package acpica-tools)")
-    r = random.Random(ARGS.seed)
-    equal = spent = 0
-    bad = []
-    for start in range(0, ARGS.blocks, SIZE):
-        bs = [block(r) for _ in range(min(SIZE, ARGS.blocks - start))]
-        lines = "".join("run 5000 %s\n" % g.hexed(b) for b in bs)
-        ports = subprocess.run([ARGS.klem], input=lines, capture_output=True, text=True).stdout.split("\n")
-        for b, port, there in zip(bs, ports, acpica(bs)):
-            if port.startswith("refused 22 "):
-                spent += 1
-            elif port.split(" units ")[0] == there:
-                equal += 1
-            else:
-                bad.append((g.hexed(b), port, there))
-    print("blocks %d, equal %d, budget spent %d, different %d" % (ARGS.blocks, equal, spent, len(bad)))
-    for b in sorted(bad, key=lambda x: len(x[0]))[:10]:
-        print("DIFFERENT %s\n  port   %s\n  ACPICA %s" % b)
-    sys.exit(1 if bad else 0)
+    sys.exit(1 if compared(2, 64, "run") + compared(1, 32, "run32") else 0)
 
 
 if __name__ == "__main__":

@@ -11,7 +11,8 @@ PAGE = os.path.dirname(os.path.abspath(__file__)) + "/../docs/DIFFERENCES.md"
 START, END = "<!-- counts -->\n", "<!-- end of counts -->\n"
 WHAT = {"packages of up to 3 bytes": "all package lengths of up to 3 bytes", "names of up to 3 bytes": "all names of up to 3 bytes", "blocks of up to 3 bytes": "all blocks of up to 3 bytes, run",
         "paths of up to 3 components": "all paths of up to 3 components over two segments", "packages": "package lengths around each limit", "blocks from trees": "blocks made from trees, and damaged copies",
-        "table calls": "table calls, in sequences", "raw lengths of up to 2 bytes": "all raw lengths of up to 2 bytes"}
+        "table calls": "table calls, in sequences", "widths": "the width of a revision", "blocks of up to 2 bytes, 32 bits": "all blocks of up to 2 bytes, run in 32 bits",
+        "blocks from trees, 32 bits": "blocks made from trees, and damaged copies, run in 32 bits", "raw lengths of up to 2 bytes": "all raw lengths of up to 2 bytes"}
 
 
 def rows(log):

@@ -279,6 +279,29 @@ class Spelling:
         return [x for s in ss for x in self.statement(s)]
 
 
+EDGES = (0, 1, 2 ** 31 - 1, 2 ** 31, 2 ** 32 - 1, 2 ** 32, 2 ** 32 + 1, 2 ** 63, 2 ** 64 - 1)
+
+
+def narrow_blocks(r, n):
+    """for a frame of 32 bits, which the Rust has not: blocks from trees, with numbers around the edges of both widths in the cells and in front of some"""
+    for line, _ in random_blocks(r, n):
+        w = line.split(" ")
+        cells = ["%d=%d" % (i, r.choice(EDGES + (r.getrandbits(64),))) for i in range(15) if r.random() < .8]
+        first = [0x70, 0x0E] + list(r.choice(EDGES).to_bytes(8, "little")) + [0x60] if r.random() < .5 else []
+        yield same(" ".join(["run32", w[1], hexed(first) * bool(first) + w[2] * (w[2] != "-") or "-"] + cells))
+
+
+def narrow_short(most):
+    return (same("run32 60 %s 0=%d 8=%d" % (hexed(t), 2 ** 32 + 5, 2 ** 63)) for t in all_bytes(most))
+
+
+def widths():
+    for dsdt in range(256):
+        yield same("width %d" % dsdt)
+        for ssdt in (0, 1, 2, 3, 255):
+            yield same("ssdt-width %d %d" % (dsdt, ssdt))
+
+
 def random_blocks(r, n):
     for _ in range(n):
         tree = statements(r, 3) + [statement(r, 3)]

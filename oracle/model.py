@@ -1,6 +1,6 @@
 """Two models in Python: what documents 01 and 02 say that a call answers, and what the Rust answers where the two are known to differ.
 
-`Paper` is 01 (and R-1 of 02) written once more, from its sentences and in another language; it uses nothing of the port, but was written with the port's definitions
+`Paper` is 01 (and R-1 and R-2 of 02) written once more, from its sentences and in another language; it uses nothing of the port, but was written with the port's definitions
 known. `Rust` follows the published source where
 docs/DIFFERENCES.md has a difference, panics included. oracle/compare.py asks both where the port and the Rust disagree: a difference is known only if
 each side's answer is the one that its model computes, and the Rust's model says which difference it met on the way.
@@ -444,6 +444,15 @@ class Paper:
     def run(self, budget, h, *cells):
         return Run(unhexed(h), cells, int(budget)).answer()
 
+    def run32(self, budget, h, *cells):
+        return Run(unhexed(h), cells, int(budget), ones=2 ** 32 - 1).answer()
+
+    def width(self, revision):
+        return "ok %d" % (32 if int(revision) < 2 else 64)
+
+    def ssdt_width(self, dsdt, ssdt):
+        return self.width(dsdt)
+
 
 class Rust:
     """what the Rust answers where it is known to differ, on the table of a `Paper`; `met` names the differences on the way"""
@@ -625,10 +634,11 @@ class End(Exception):
 
 
 class Run:
-    """the run of a block. With `met`, as the Rust runs it: no budget, and its two differences as errors. `trace` has the bytes of each term that was evaluated whole"""
+    """the run of a block. With `met`, as the Rust runs it: no budget, and its two differences as errors. `trace` has the bytes of each term that was evaluated whole.
+    `ones` is all ones in the frame's width (R-2): any number that is larger keeps its low bits"""
 
-    def __init__(self, block, cells, budget, met=None):
-        self.block, self.budget, self.met, self.units, self.trace = block, budget, met, 0, []
+    def __init__(self, block, cells, budget, met=None, ones=ONES):
+        self.block, self.budget, self.met, self.units, self.trace, self.ones = block, budget, met, 0, [], ones
         self.cells = [None] * 15
         for w in cells:
             i, v = w.split("=")
@@ -646,6 +656,8 @@ class Run:
         return " ".join("-" if c is None else str(c) for c in self.cells)
 
     def ended(self, tree):
+        # execution begins
+        self.cells = [c if c is None else c & self.ones for c in self.cells]
         try:
             self.list(tree)
             return "finished"
@@ -710,7 +722,7 @@ class Run:
 
     def term(self, t):
         if t[0] == "number":
-            return t[1]
+            return t[1] & self.ones
         if t[0] == "cell":
             return self.read(t[1])
         op, ts, cell, _ = t
@@ -718,17 +730,18 @@ class Run:
             self.met.add("lnot-alone")
             raise RustError("UnexpectedByte(146)")
         if op in (0x75, 0x76):
-            n = (self.read(cell) + (1 if op == 0x75 else -1)) & ONES
+            n = self.read(cell) + (1 if op == 0x75 else -1)
         else:
             a = [self.term(u) for u in ts]
             n = VALUES[op](*a)
+        n &= self.ones
         if cell is not None:
             self.cells[cell] = n
         return n
 
 
-TRUTH = lambda b: ONES if b else 0
-VALUES = {0x70: lambda a: a, 0x72: lambda a, b: (a + b) & ONES, 0x7B: lambda a, b: a & b, 0x90: lambda a, b: TRUTH(a and b), 0x91: lambda a, b: TRUTH(a or b),
+TRUTH = lambda b: -1 if b else 0
+VALUES = {0x70: lambda a: a, 0x72: lambda a, b: a + b, 0x7B: lambda a, b: a & b, 0x90: lambda a, b: TRUTH(a and b), 0x91: lambda a, b: TRUTH(a or b),
           0x92: lambda a: TRUTH(not a), 0x93: lambda a, b: TRUTH(a == b), 0x94: lambda a, b: TRUTH(a > b), 0x95: lambda a, b: TRUTH(a < b)}
 
 

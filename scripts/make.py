@@ -3,12 +3,13 @@
 
   scripts/make.py            from the repository's root
 
-Five parts, in this order:
+Six parts, in this order:
 1. document 01's cases that are not in crate `cases`, and its impostors' inputs: the answers are the paper's, written here by hand beside each line;
 2. every limit: the answers follow from the limit, by the rules in this file, not from the program;
 3. request R-1 of document 02, whole tables: the answers are those of oracle/model.py's second reading, and by hand where they are short;
-4. the shell's own words: its help is the list of docs/KLEM.md, and the examples of that page are true;
-5. the replay: calls on which the port and the Rust agreed (oracle/compare.py --sample), with those answers (scripts/replay.in, replay.out).
+4. request R-2 of document 02, the width of a frame: the answers follow from the width, by the rules in this file;
+5. the shell's own words: its help is the list of docs/KLEM.md, and the examples of that page are true;
+6. the replay: calls on which the port and the Rust agreed (oracle/compare.py --sample), with those answers (scripts/replay.in, replay.out).
 """
 import os
 import re
@@ -263,6 +264,73 @@ def whole_tables():
     asked("write-table 44534454 2 %s %s 100000" % ("00" * 26, "A5" * 99950))
 
 
+EDGES = (0, 1, 2**31, 2**32 - 1, 2**32, 2**63, 2**64 - 1)
+
+
+def widths():
+    note("request R-2: numbers have 32 bits below revision 2 of the DSDT, else 64; an SSDT's own revision says nothing")
+    for revision in (0, 1, 2, 3, 255):
+        bits = 32 if revision in (0, 1) else 64
+        case("width %d" % revision, "ok %d" % bits)
+        for ssdt in (0, 1, 2, 255):
+            case("ssdt-width %d %d" % (revision, ssdt), "ok %d" % bits)
+    for bits, run in ((32, "run32"), (64, "run")):
+        frames_of(bits, run)
+
+
+def frames_of(bits, run):
+    """the same lines at both widths: an answer has the low bits of what it would be without a width"""
+    low = lambda n: n % 2**bits
+    ones = 2**bits - 1
+
+    def gives(term, number, **given):
+        words = "".join(" %s=%d" % (c[1:], n) for c, n in given.items())
+        case("%s 1 A4%s%s" % (run, term, words), ran("returned %d" % number, 1, **{c: low(n) for c, n in given.items()}))
+
+    note("%d bits: all ones, and true" % bits)
+    for term in ("FF", "930000", "94FF00", "9500FF", "9200", "90FF01", "910001"):
+        gives(term, ones)
+    note("%d bits: a constant of eight bytes keeps its low bits, shorter ones all of theirs" % bits)
+    for n in EDGES:
+        gives("0E" + hexed(n.to_bytes(8, "little")), low(n))
+        for op, size in (("0A", 1), ("0B", 2), ("0C", 4)):
+            gives(op + hexed((n % 256**size).to_bytes(size, "little")), n % 256**size)
+    note("%d bits: Increment, Decrement and Add wrap; Store and And; a cell that is larger keeps its low bits" % bits)
+    for n in EDGES:
+        for op, by in (("75", 1), ("76", -1)):
+            case("%s 9 %s60 0=%d" % (run, op, n), ran("finished", 1, c0=low(n + by)))
+        case("%s 9 706061 0=%d" % (run, n), ran("finished", 1, c0=low(n), c1=low(n)))
+        case("%s 9 700E%s60" % (run, hexed(n.to_bytes(8, "little"))), ran("finished", 1, c0=low(n)))
+        gives("60", low(n), c0=n)
+        for m in EDGES:
+            case("%s 9 72686E67 8=%d 14=%d" % (run, n, m), ran("finished", 1, c7=low(n + m), c8=low(n), c14=low(m)))
+            gives("72606100", low(n + m), c0=n, c1=m)
+            gives("7B606100", low(n & m), c0=n, c1=m)
+    note("%d bits: what is compared, and what holds, are the low bits" % bits)
+    for n in EDGES:
+        case("%s 9 A00460A401A103A400 0=%d" % (run, n), ran("returned %d" % (low(n) != 0), 2, c0=low(n)))
+        case("%s 2 A20260 0=%d" % (run, n), ran(refused(22), 2, c0=low(n)) if low(n) else ran("finished", 2, c0=0))
+        gives("9260", 0 if low(n) else ones, c0=n)
+        for m in EDGES:
+            for op, holds in (("90", low(n) and low(m)), ("91", low(n) or low(m)), ("93", low(n) == low(m)), ("94", low(n) > low(m)), ("95", low(n) < low(m))):
+                gives(op + "6061", ones if holds else 0, c0=n, c1=m)
+    note("%d bits: cut from the moment that execution begins: an empty block, a first 22, a first 23; not where the block is refused" % bits)
+    for n in EDGES:
+        words = " 0=%d 7=5 8=%d 14=%d" % (n, n, n)
+        left, kept = dict(c0=low(n), c7=5, c8=low(n), c14=low(n)), cells(c0=n, c7=5, c8=n, c14=n)
+        for budget in (0, 1):
+            case("%s %d -%s" % (run, budget, words), ran("finished", 0, **left))
+        case("%s 0 A3%s" % (run, words), ran(refused(22), 0, **left))
+        case("%s 1 A401A3%s" % (run, words), ran("returned 1", 1, **left))
+        case("%s 1 A461%s" % (run, words), ran(refused(23, 1), 1, **left))
+        for budget in (0, 9):
+            case("%s %d 30%s" % (run, budget, words), refused(3, 0) + " units 0 cells " + kept)
+            case("%s %d A375607A%s" % (run, budget, words), refused(3, 3) + " units 0 cells " + kept)
+            case("%s %d A4%s" % (run, budget, words), refused(1, 1) + " units 0 cells " + kept)
+    note("%d bits: a loop that comes around: from all ones it is 0 after one turn" % bits)
+    case("%s 99 A204607560A460 0=%d" % (run, 2**64 - 1), ran("returned 0", 5, c0=0))
+
+
 def wrong_lines():
     note("lines that are no command")
 
@@ -275,6 +343,10 @@ def wrong_lines():
     wrong("new 1", "wants new")
     wrong("level \\A", "wants level PATH TYPE")
     wrong("run 1", "wants run BUDGET HEX [CELL=NUMBER ..]")
+    wrong("run32 1", "wants run32 BUDGET HEX [CELL=NUMBER ..]")
+    wrong("width", "wants width REV")
+    wrong("width 1 1", "wants width REV")
+    wrong("ssdt-width 1", "wants ssdt-width REV REV")
     wrong("help foo", "no such command")
     wrong("pkg 0", "bad hex")
     wrong("pkg 0G", "bad hex")
@@ -289,6 +361,12 @@ def wrong_lines():
     wrong("level \\A 6", "bad type")
     wrong("normal =x:", "bad path")
     wrong("run 1 A3 15=1", "bad cell")
+    wrong("run32 1 A3 15=1", "bad cell")
+    wrong("run32 1 A", "bad hex")
+    wrong("width 256", "bad number")
+    wrong("width x", "bad number")
+    wrong("ssdt-width 256 2", "bad number")
+    wrong("ssdt-width 2 256", "bad number")
     wrong("poke 1153 0", "no such word")
     usage = "wants write-table SIG REV REST BODY ROOM"
     wrong("write-table 44534454 2 %s -" % ("00" * 26), usage)
@@ -323,8 +401,9 @@ def helped():
         case("help " + u.split(" ")[0], "ok " + u)
     note("the examples of docs/KLEM.md, in its order")
     case("new", "ok")
-    for line, answer in re.findall(r"\| `([^`]*)` gives `([^`]*)` \|$", page, re.M):
-        case(line, answer)
+    for examples in re.findall(r"\| ([^|]*` gives `[^|]*) \|$", page, re.M):
+        for line, answer in re.findall(r"`([^`]*)` gives `([^`]*)`", examples):
+            case(line, answer)
 
 
 WORDS = 1153
@@ -533,7 +612,7 @@ def damaged():
     case("digest", "ok %d" % digest(good))
 
 
-PARTS = [paper, limits_of_lengths, limits_of_components, limits_of_depth, limits_of_budget, tables, table_limits, whole_tables, wrong_lines, helped]
+PARTS = [paper, limits_of_lengths, limits_of_components, limits_of_depth, limits_of_budget, tables, table_limits, whole_tables, widths, wrong_lines, helped]
 
 
 def main():

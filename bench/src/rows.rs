@@ -9,7 +9,7 @@ use aml::{
     value::{AmlValue, Args},
     AmlContext, DebugVerbosity, Handler, MethodContext,
 };
-use klem::{Ended, Frame, LevelType, Path, Table};
+use klem::{Ended, Frame, LevelType, Path, Table, Width};
 use std::{fmt::Debug, rc::Rc};
 
 struct NoHardware;
@@ -70,6 +70,9 @@ pub fn rows() -> Vec<Row> {
     rows.extend(sizes.map(checked));
     rows.extend(sizes.map(|kib| run(&format!("run a block of {kib} KiB"), vec![inputs::block_of(kib * 1024)], 64 / kib)));
     rows.push(run("run a loop of 100,000 turns", vec![inputs::turns(100_000)], 1));
+    // the Rust has no 32 bits: it runs the same loop in 64, and comes to the same
+    let narrow = run_at(Width::Bits32, "run the same loop at 32 bits (the Rust has 64 alone)", vec![inputs::turns(100_000)], 1);
+    rows.push(Row { apart: true, ..narrow });
     rows.push(run("run short blocks (1 to 16 bytes)", inputs::short_blocks(), 2_400));
     rows.push(refused("run short blocks that both refuse (1 to 16 bytes)", inputs::short_faults(), 2_400));
     rows.push(refused("run a block of 64 KiB that both refuse at its end", vec![inputs::late_fault(65_536)], 1));
@@ -384,8 +387,8 @@ fn grown(n: usize) -> Row {
 
 type Cells = Vec<Option<u64>>;
 
-fn port_run(block: &[u8]) -> (String, Cells) {
-    let mut frame = Frame::new();
+fn port_run(width: Width, block: &[u8]) -> (String, Cells) {
+    let mut frame = Frame::new(width);
     let end = match klem::run(block, &mut frame, u64::MAX).end {
         Ok(Ended::Finished) => "finished".into(),
         Ok(Ended::Returned(n)) => format!("returned {n}"),
@@ -407,10 +410,10 @@ fn rust_run(block: &[u8], c: &mut AmlContext) -> (String, Cells) {
     (end, m.locals.iter().chain(m.args.0.iter()).map(|v| v.as_ref().and_then(|v| v.as_integer(c).ok())).collect())
 }
 
-fn same_run(blocks: &[Vec<u8>]) -> Result<usize, String> {
+fn same_run(width: Width, blocks: &[Vec<u8>]) -> Result<usize, String> {
     let mut c = context();
     for b in blocks {
-        equal(&&b[..b.len().min(16)], port_run(b), rust_run(b, &mut c))?;
+        equal(&&b[..b.len().min(16)], port_run(width, b), rust_run(b, &mut c))?;
     }
     Ok(blocks.len())
 }
@@ -426,26 +429,32 @@ fn rust_runs() -> impl FnMut(&Vec<u8>) {
     }
 }
 
-fn port_runs(b: &Vec<u8>) {
-    let mut frame = Frame::new();
-    done(klem::run(black_box(b), &mut frame, u64::MAX));
-    done(&frame);
+fn port_runs(width: Width) -> impl FnMut(&Vec<u8>) {
+    move |b| {
+        let mut frame = Frame::new(width);
+        done(klem::run(black_box(b), &mut frame, u64::MAX));
+        done(&frame);
+    }
 }
 
 fn run(title: &str, blocks: Vec<Vec<u8>>, calls: usize) -> Row {
+    run_at(Width::Bits64, title, blocks, calls)
+}
+
+fn run_at(width: Width, title: &str, blocks: Vec<Vec<u8>>, calls: usize) -> Row {
     let check = blocks.clone();
-    reading(title, calls, blocks.clone(), blocks, port_runs, rust_runs(), move || same_run(&check))
+    reading(title, calls, blocks.clone(), blocks, port_runs(width), rust_runs(), move || same_run(width, &check))
 }
 
 // The port checks the block and runs none of it; the Rust runs it as far as the fault. Both give the same refusal.
 fn refused(title: &str, blocks: Vec<Vec<u8>>, calls: usize) -> Row {
     let check = blocks.clone();
-    reading(title, calls, blocks.clone(), blocks, port_runs, rust_runs(), move || {
+    reading(title, calls, blocks.clone(), blocks, port_runs(Width::Bits64), rust_runs(), move || {
         let mut c = context();
         for b in &check {
             let end = b[b.len().saturating_sub(16)..].to_vec();
             let port = klem::check(b).err().ok_or(format!("{end:?}: the check accepts it"))?;
-            equal(&end, klem::run(b, &mut Frame::new(), u64::MAX).end, Err(port))?;
+            equal(&end, klem::run(b, &mut Frame::new(Width::Bits64), u64::MAX).end, Err(port))?;
             let kind = match port.number() {
                 1 => "UnexpectedEndOfStream",
                 2 => "InvalidPkgLength",
@@ -471,7 +480,7 @@ fn checked(kib: usize) -> Row {
         rust_runs(),
         move || {
             klem::check(&check[0]).map_err(|e| e.to_string())?;
-            same_run(&check)
+            same_run(Width::Bits64, &check)
         },
     );
     Row { apart: true, ..row }

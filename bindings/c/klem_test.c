@@ -241,7 +241,7 @@ static void blocks(void) {
     REFUSES(KLEM_BLOCK_TOO_LONG, 0, klem_check(large, KLEM_BLOCK_BYTES + 1, r, KLEM_RESULT));
 
     memset(frame, 0xA5, sizeof frame);
-    GIVES(0, 0, 0, klem_frame_new(frame, KLEM_FRAME, r, KLEM_RESULT));
+    GIVES(0, 0, 0, klem_frame_new(frame, KLEM_FRAME, KLEM_BITS64, r, KLEM_RESULT));
     GIVES(KLEM_RETURNED, 0, 10, klem_run(loop, sizeof loop, frame, KLEM_FRAME, 100, r, KLEM_RESULT));
     GIVES(0, 0, 0, klem_frame_get(frame, KLEM_FRAME, KLEM_LOCAL0, r, KLEM_RESULT));
     GIVES(KLEM_RETURNED, 0, 2, klem_run(branch, sizeof branch, frame, KLEM_FRAME, 100, r, KLEM_RESULT));
@@ -270,6 +270,114 @@ static void blocks(void) {
     REFUSES(KLEM_BAD_CELL, SIZE_MAX, klem_frame_set(frame, KLEM_FRAME, SIZE_MAX, 1, r, KLEM_RESULT));
     MUST(memcmp(before, frame, sizeof frame) == 0);
     REFUSES(KLEM_UNSET, KLEM_CELLS, klem_frame_get(frame, KLEM_FRAME, KLEM_CELLS, r, KLEM_RESULT));
+}
+
+/* a fresh frame of that width, with Local0 set */
+static void filled(uint64_t *frame, uint64_t width, uint64_t local0) {
+    GIVES(0, 0, 0, klem_frame_new(frame, KLEM_FRAME, width, r, KLEM_RESULT));
+    GIVES(0, 0, 0, klem_frame_set(frame, KLEM_FRAME, KLEM_LOCAL0, local0, r, KLEM_RESULT));
+}
+
+/* Request R-2: what a block that ends in a Return gives in a frame of either width, whose Local0 holds a number */
+static void returns(const uint8_t *block, size_t len, uint64_t local0, uint64_t at_32, uint64_t at_64) {
+    uint64_t frame[KLEM_FRAME];
+    filled(frame, KLEM_BITS32, local0);
+    GIVES(KLEM_RETURNED, at_32, 1, klem_run(block, len, frame, KLEM_FRAME, 1, r, KLEM_RESULT));
+    MUST(frame[KLEM_WIDTH_AT] == KLEM_BITS32 && frame[KLEM_CELLS] <= UINT32_MAX);
+    filled(frame, KLEM_BITS64, local0);
+    GIVES(KLEM_RETURNED, at_64, 1, klem_run(block, len, frame, KLEM_FRAME, 1, r, KLEM_RESULT));
+    MUST(frame[KLEM_WIDTH_AT] == KLEM_BITS64);
+}
+
+#define RETURNS(local0, at_32, at_64, ...)                             \
+    do {                                                               \
+        static const uint8_t block[] = {0xA4, __VA_ARGS__};            \
+        returns(block, sizeof block, local0, at_32, at_64);            \
+    } while (0)
+
+static void widths(void) {
+    static const uint8_t steps[] = {0x75, 0x60, 0x75, 0x61};
+    static const uint8_t dead[] = {0x75, 0x60, 0xA0, 0x04, 0x00, 0x30, 0xA4, 0x00};
+    static const uint64_t wrong[] = {0, 1, 31, 33, 63, 65, 128, (uint64_t)1 << 32 | 32, UINT64_MAX};
+    const uint64_t over = (uint64_t)1 << 32, large = 0xFEDCBA9876543210, low = 0x76543210;
+    uint64_t frame[KLEM_FRAME], before[KLEM_FRAME];
+    unsigned i;
+
+    /* the DSDT's revision decides, in its SSDTs too */
+    for (i = 0; i < 256; i++) {
+        MUST(klem_width_of((uint8_t)i) == (i < 2 ? KLEM_BITS32 : KLEM_BITS64));
+        MUST(klem_width_of_ssdt((uint8_t)i, 0) == klem_width_of((uint8_t)i) && klem_width_of_ssdt((uint8_t)i, 255) == klem_width_of((uint8_t)i));
+    }
+
+    /* all ones, and true; wrapping; an eight-byte constant; what is compared */
+    RETURNS(0, UINT32_MAX, UINT64_MAX, 0xFF);
+    RETURNS(5, UINT32_MAX, UINT64_MAX, 0x93, 0x60, 0x0A, 0x05);
+    RETURNS(0, UINT32_MAX, UINT64_MAX, 0x92, 0x60);
+    RETURNS(UINT32_MAX, 0, over, 0x75, 0x60);
+    RETURNS(UINT64_MAX, 0, 0, 0x75, 0x60);
+    RETURNS(0, UINT32_MAX, UINT64_MAX, 0x76, 0x60);
+    RETURNS(over, UINT32_MAX, UINT32_MAX, 0x76, 0x60);
+    RETURNS(UINT32_MAX, 0, over, 0x72, 0x60, 0x01, 0x00);
+    RETURNS(UINT32_MAX, 4, over + 4, 0x72, 0x60, 0x0A, 0x05, 0x60);
+    RETURNS(0, low, large, 0x0E, 0x10, 0x32, 0x54, 0x76, 0x98, 0xBA, 0xDC, 0xFE);
+    RETURNS(0, low, large, 0x70, 0x0E, 0x10, 0x32, 0x54, 0x76, 0x98, 0xBA, 0xDC, 0xFE, 0x60);
+    RETURNS(0, UINT32_MAX, UINT32_MAX, 0x0C, 0xFF, 0xFF, 0xFF, 0xFF);
+    RETURNS(large, low, large, 0x60);
+    RETURNS(large, low, large, 0x7B, 0x60, 0xFF, 0x00);
+    RETURNS(over, 0, UINT64_MAX, 0x91, 0x60, 0x00);
+    RETURNS(over, UINT32_MAX, 0, 0x93, 0x60, 0x00);
+    RETURNS(over, 0, UINT64_MAX, 0x94, 0x60, 0x01);
+
+    /* a frame holds what it was given, until execution begins: then a larger number keeps its low 32 bits, that of an unset cell too */
+    filled(frame, KLEM_BITS32, large);
+    frame[KLEM_CELLS + 1] = large;
+    GIVES(large, 0, 0, klem_frame_get(frame, KLEM_FRAME, KLEM_LOCAL0, r, KLEM_RESULT));
+    /* a block that the check refuses, whatever the budget */
+    memcpy(before, frame, sizeof frame);
+    REFUSES(KLEM_BAD_OPCODE, 5, klem_run(dead, sizeof dead, frame, KLEM_FRAME, 9, r, KLEM_RESULT));
+    REFUSES(KLEM_BAD_OPCODE, 5, klem_run(dead, sizeof dead, frame, KLEM_FRAME, 0, r, KLEM_RESULT));
+    MUST(memcmp(before, frame, sizeof frame) == 0);
+    /* an empty block */
+    GIVES(KLEM_FINISHED, 0, 0, klem_run(NULL, 0, frame, KLEM_FRAME, 0, r, KLEM_RESULT));
+    GIVES(low, 0, 0, klem_frame_get(frame, KLEM_FRAME, KLEM_LOCAL0, r, KLEM_RESULT));
+    MUST(frame[KLEM_CELLS] == low && frame[1] == 0 && frame[KLEM_CELLS + 1] == low);
+    /* a first 22, and a 23 */
+    filled(frame, KLEM_BITS32, large);
+    MUST(answered(KLEM_BUDGET_SPENT, 0, 0, 0, 0, klem_run(steps, sizeof steps, frame, KLEM_FRAME, 0, r, KLEM_RESULT)));
+    GIVES(low, 0, 0, klem_frame_get(frame, KLEM_FRAME, KLEM_LOCAL0, r, KLEM_RESULT));
+    filled(frame, KLEM_BITS32, large);
+    MUST(answered(KLEM_UNSET, 1, 0, 0, 2, klem_run(steps, sizeof steps, frame, KLEM_FRAME, 9, r, KLEM_RESULT)));
+    GIVES(low + 1, 0, 0, klem_frame_get(frame, KLEM_FRAME, KLEM_LOCAL0, r, KLEM_RESULT));
+    /* in a frame of 64 bits nothing is cut */
+    filled(frame, KLEM_BITS64, large);
+    frame[KLEM_CELLS + 1] = large;
+    GIVES(KLEM_FINISHED, 0, 0, klem_run(NULL, 0, frame, KLEM_FRAME, 0, r, KLEM_RESULT));
+    MUST(answered(KLEM_BUDGET_SPENT, 0, 0, 0, 0, klem_run(steps, sizeof steps, frame, KLEM_FRAME, 0, r, KLEM_RESULT)));
+    MUST(frame[KLEM_CELLS] == large && frame[KLEM_CELLS + 1] == large);
+
+    /* a width that is neither is told before the block and before the cell, and the frame stays as it was, word for word */
+    for (i = 0; i < sizeof wrong / sizeof *wrong; i++) {
+        memset(frame, 0xA5, sizeof frame);
+        frame[KLEM_WIDTH_AT] = wrong[i];
+        memcpy(before, frame, sizeof frame);
+        REFUSES(KLEM_BAD_WIDTH, wrong[i], klem_run(steps, sizeof steps, frame, KLEM_FRAME, 9, r, KLEM_RESULT));
+        REFUSES(KLEM_BAD_WIDTH, wrong[i], klem_run(NULL, 0, frame, KLEM_FRAME, 0, r, KLEM_RESULT));
+        REFUSES(KLEM_BAD_WIDTH, wrong[i], klem_run(dead, sizeof dead, frame, KLEM_FRAME, 9, r, KLEM_RESULT));
+        REFUSES(KLEM_BAD_WIDTH, wrong[i], klem_frame_new(frame, KLEM_FRAME, wrong[i], r, KLEM_RESULT));
+        REFUSES(KLEM_BAD_WIDTH, wrong[i], klem_frame_get(frame, KLEM_FRAME, KLEM_LOCAL0, r, KLEM_RESULT));
+        REFUSES(KLEM_BAD_WIDTH, wrong[i], klem_frame_get(frame, KLEM_FRAME, KLEM_CELLS, r, KLEM_RESULT));
+        REFUSES(KLEM_BAD_WIDTH, wrong[i], klem_frame_set(frame, KLEM_FRAME, KLEM_LOCAL0, 1, r, KLEM_RESULT));
+        REFUSES(KLEM_BAD_WIDTH, wrong[i], klem_frame_set(frame, KLEM_FRAME, KLEM_CELLS, 1, r, KLEM_RESULT));
+        MUST(memcmp(before, frame, sizeof frame) == 0);
+        /* a frame is made of any words */
+        GIVES(0, 0, 0, klem_frame_new(frame, KLEM_FRAME, KLEM_BITS32, r, KLEM_RESULT));
+        MUST(frame[KLEM_WIDTH_AT] == KLEM_BITS32);
+        /* and a good one stays where the width that is asked for is none */
+        filled(frame, KLEM_BITS32, large);
+        memcpy(before, frame, sizeof frame);
+        REFUSES(KLEM_BAD_WIDTH, wrong[i], klem_frame_new(frame, KLEM_FRAME, wrong[i], r, KLEM_RESULT));
+        MUST(memcmp(before, frame, sizeof frame) == 0);
+    }
 }
 
 /* the count of a path: two bytes, low first */
@@ -321,12 +429,12 @@ static void nulls(void) {
     REFUSES(KLEM_BAD_TABLE, 0, klem_add_level(NULL, 0, p.bytes, KLEM_PATH, KLEM_SCOPE, r, KLEM_RESULT));
     REFUSES(KLEM_BAD_TABLE, 0, klem_get(NULL, 0, 0, r, KLEM_RESULT));
     GIVES(0, 0, 0, klem_check(NULL, 0, r, KLEM_RESULT));
-    GIVES(0, 0, 0, klem_frame_new(frame, KLEM_FRAME, r, KLEM_RESULT));
+    GIVES(0, 0, 0, klem_frame_new(frame, KLEM_FRAME, KLEM_BITS32, r, KLEM_RESULT));
     GIVES(KLEM_FINISHED, 0, 0, klem_run(NULL, 0, frame, KLEM_FRAME, 9, r, KLEM_RESULT));
     /* and where the length is fixed it is a wrong one */
     MUST(klem_root(NULL, 0, r, KLEM_RESULT) == KLEM_BAD_SLICE);
     MUST(klem_root(out, KLEM_PATH, NULL, 0) == KLEM_BAD_SLICE);
-    MUST(klem_frame_new(NULL, 0, r, KLEM_RESULT) == KLEM_BAD_SLICE);
+    MUST(klem_frame_new(NULL, 0, KLEM_BITS64, r, KLEM_RESULT) == KLEM_BAD_SLICE);
 }
 
 /* all memory of the calls below, one element longer than it must be */
@@ -374,6 +482,7 @@ static void misuse(void) {
     memset(m.out, 0xA5, sizeof m.out);
     memset(m.text, 0xA5, sizeof m.text);
     m.frame[0] = 77;
+    m.frame[KLEM_WIDTH_AT] = KLEM_BITS64;
     MUST(klem_table_new(T, r, KLEM_RESULT) == KLEM_OK);
     MUST(klem_add_value(T, TARGET, 5, r, KLEM_RESULT) == KLEM_OK);
 
@@ -445,16 +554,25 @@ static void misuse(void) {
     WRONG(KLEM_RESULT, klem_check(INPUT, RN));
     WRONG(KLEM_RESULT, klem_run(INPUT, FRAME, 9, RN));
     WRONG(KLEM_FRAME, klem_run(INPUT, m.frame, n, 9, R));
-    WRONG(KLEM_RESULT, klem_frame_new(FRAME, RN));
-    WRONG(KLEM_FRAME, klem_frame_new(m.frame, n, R));
+    WRONG(KLEM_RESULT, klem_frame_new(FRAME, KLEM_BITS64, RN));
+    WRONG(KLEM_FRAME, klem_frame_new(m.frame, n, KLEM_BITS32, R));
     WRONG(KLEM_RESULT, klem_frame_get(FRAME, KLEM_LOCAL0, RN));
     WRONG(KLEM_FRAME, klem_frame_get(m.frame, n, KLEM_LOCAL0, R));
     WRONG(KLEM_RESULT, klem_frame_set(FRAME, KLEM_LOCAL0, 9, RN));
     WRONG(KLEM_FRAME, klem_frame_set(m.frame, n, KLEM_LOCAL0, 9, R));
 
-    /* a slice of a wrong length is found before a wrong type, a wrong cell and memory that is no table */
+    /* a slice of a wrong length is found before a wrong type, a wrong cell, a wrong width and memory that is no table */
     UNTOUCHED(klem_add_level(T, m.path, 0, KLEM_METHOD_LOCALS + 1, R));
     UNTOUCHED(klem_frame_set(m.frame, 0, KLEM_CELLS, 9, R));
+    m.frame[KLEM_WIDTH_AT] = 33;
+    WRONG(KLEM_FRAME, klem_run(INPUT, m.frame, n, 9, R));
+    WRONG(KLEM_FRAME, klem_frame_new(m.frame, n, 33, R));
+    WRONG(KLEM_FRAME, klem_frame_get(m.frame, n, KLEM_LOCAL0, R));
+    WRONG(KLEM_FRAME, klem_frame_set(m.frame, n, KLEM_LOCAL0, 9, R));
+    WRONG(KLEM_RESULT, klem_run(INPUT, FRAME, 9, RN));
+    WRONG(KLEM_RESULT, klem_frame_new(FRAME, 33, RN));
+    WRONG(KLEM_RESULT, klem_frame_get(FRAME, KLEM_LOCAL0, RN));
+    WRONG(KLEM_RESULT, klem_frame_set(FRAME, KLEM_LOCAL0, 9, RN));
     UNTOUCHED(klem_add_level(m.table, KLEM_TABLE - 1, m.path, 0, KLEM_SCOPE, R));
     /* and a wrong type before memory that is no table or no path */
     m.path[1] = 1;
@@ -469,6 +587,7 @@ int main(void) {
     paths();
     tables();
     blocks();
+    widths();
     counts();
     nulls();
     misuse();

@@ -93,7 +93,7 @@ static void say(const char *what, void (*call)(void), size_t most) {
 
 int main(void) {
     klem_table_new(table, KLEM_TABLE, r, KLEM_RESULT);
-    klem_frame_new(frame, KLEM_FRAME, r, KLEM_RESULT);
+    klem_frame_new(frame, KLEM_FRAME, KLEM_BITS64, r, KLEM_RESULT);
     klem_from_str((const uint8_t *)"\\AAAA", 5, a, KLEM_PATH, r, KLEM_RESULT);
     klem_from_str((const uint8_t *)"BBBB", 4, b, KLEM_PATH, r, KLEM_RESULT);
     nest(KLEM_DEPTH, KLEM_DEPTH);
@@ -117,9 +117,11 @@ int main(void) {
     say("search level", level_searches, MOST_OTHER);
     say("set by path", gets, MOST_OTHER);
     say("remove level", removes, MOST_OTHER);
-    /* the deepest block that runs, and three that are refused for one level more: of terms, of statements, of both */
+    /* the deepest block that runs, at both widths, and three that are refused for one level more: of terms, of statements, of both */
     say("check, deepest", checks, MOST);
     say("run, deepest", runs, MOST);
+    klem_frame_new(frame, KLEM_FRAME, KLEM_BITS32, r, KLEM_RESULT);
+    say("run at 32 bits", runs, MOST);
     nest(KLEM_DEPTH, KLEM_DEPTH + 1);
     say("term too deep", runs, MOST);
     nest(KLEM_DEPTH + 1, KLEM_DEPTH);

@@ -30,7 +30,7 @@ int main(int count, char **words) {
     block[2] = (uint8_t)(n >> 4);
     block[3] = (uint8_t)(n >> 12);
     n++;
-    klem_frame_new(frame, KLEM_FRAME, r, KLEM_RESULT);
+    klem_frame_new(frame, KLEM_FRAME, KLEM_BITS64, r, KLEM_RESULT);
     klem_run(block, n, frame, KLEM_FRAME, budget, r, KLEM_RESULT);
     if (r[0] != KLEM_BUDGET_SPENT || r[4] != budget) {
         fprintf(stderr, "unit: refused %u at %u after %u units\n", (unsigned)r[0], (unsigned)r[1], (unsigned)r[4]);

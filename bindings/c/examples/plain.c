@@ -31,7 +31,7 @@ int main(void) {
     klem_as_string(found, KLEM_PATH, text, sizeof text, r, KLEM_RESULT);
     printf("name %.*s, ", (int)r[2], (const char *)text);
 
-    klem_frame_new(frame, KLEM_FRAME, r, KLEM_RESULT);
+    klem_frame_new(frame, KLEM_FRAME, klem_width_of(2), r, KLEM_RESULT); /* 2: the revision in the header of the DSDT */
     if (klem_run(block, sizeof block, frame, KLEM_FRAME, 1000, r, KLEM_RESULT)) return 1;
     printf("returned %u after %u units\n", (unsigned)r[3], (unsigned)r[4]);
     return r[2] == KLEM_RETURNED && r[3] == 3 ? 0 : 1;

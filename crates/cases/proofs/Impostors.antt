@@ -23,6 +23,7 @@ use Rattle.statement.specs.declared.RunAnswer.{RunAnswer}
 use Rattle.grammar.specs.Tree.{Stmts}
 use Rattle.grammar.specs.Opcode.{look, termOp, stmtOp}
 use Rattle.grammar.specs.Reader.{readOne, readTwo, readTerm, readPackage, readHead, readElse, readIf, listBy, readStmt, readBlock}
+use Rattle.statement.specs.declared.frame.Width.the-variants.{Bits64}
 use Rattle.statement.specs.Frames.{fresh}
 use Rattle.statement.specs.Meaning.{eval, turns, doStmt, doStmts}
 use Rattle.grammar.specs.Promise.{Checked, checkSaid}
@@ -42,7 +43,7 @@ unfolding readBlock listBy readStmt look stmtOp termOp
 no-check-accepts-all r c = c .refusal 3 0 refl
 
 -- a run that meets its contract shows what the list of cases shows, on every block and budget
-pub run-shows : (s : List ℕ) (budget : ℕ) (r : RunAnswer) → HasRun s fresh budget r → runShown (runSaid r) ≡ run s budget
+pub run-shows : (s : List ℕ) (budget : ℕ) (r : RunAnswer) → HasRun s (fresh Bits64) budget r → runShown (runSaid r) ≡ run s budget
 run-shows s budget r h = go (readBlock s) refl
   where
     go : (a : Answer Stmts) → readBlock s ≡ a → runShown (runSaid r) ≡ run s budget
@@ -51,7 +52,7 @@ run-shows s budget r h = go (readBlock s) refl
 
 -- a While that executes its first turn and counts the rest would return 2, one that counts from the start 3; units that are invented are not 10
 pub no-while-counts : (r : RunAnswer)
-    → HasRun (0x70 ∷ 0x0A ∷ 0x03 ∷ 0x60 ∷ 0xA2 ∷ 0x04 ∷ 0x60 ∷ 0x76 ∷ 0x60 ∷ 0xA4 ∷ 0x60 ∷ []) fresh 100 r
+    → HasRun (0x70 ∷ 0x0A ∷ 0x03 ∷ 0x60 ∷ 0xA2 ∷ 0x04 ∷ 0x60 ∷ 0x76 ∷ 0x60 ∷ 0xA4 ∷ 0x60 ∷ []) (fresh Bits64) 100 r
     → runShown (runSaid r) ≡ gives (1 ∷ 0 ∷ 10 ∷ [])
 unfolding little spelt rawLength fromRaw pkgLength look termOp stmtOp readOne readTwo readTerm packageIn readPackage readHead readElse readIf listBy readStmt readBlock
     fresh eval turns doStmt doStmts

@@ -18,8 +18,8 @@ use Rattle.namespace.specs.declared.LevelType.the-variants.{Scope}
 use Rattle.namespace.specs.Calls.{newCall, addLevelCall, addValueCall}
 use Rattle.namespace.specs.Search.{searchCall}
 use Rattle.grammar.specs.Reader.{readBlock}
+use Rattle.statement.specs.declared.frame.Width.the-variants.{Bits64}
 use Rattle.statement.specs.Frames.{fresh}
-use Rattle.statement.specs.Meaning.{width}
 use Rattle.statement.specs.Meaning.{Ended, finished, returned, breakOut, continueOut, Outcome, mean}
 
 -- raw length, end offset, bytes used
@@ -88,9 +88,9 @@ paperTable =
 unfoldable pub searched : List ℕ → List ℕ → Answer (List ℕ)
 searched path scope = hitShown (searchCall limits paperTable (typed path) (typed scope))
 
--- from a fresh frame
+-- from a fresh frame of 64 bits
 abbrev pub run : List ℕ → ℕ → Answer (List ℕ)
-run block budget = andThen (readBlock block) (λ tree. runShown (mean width tree fresh budget))
+run block budget = andThen (readBlock block) (λ tree. runShown (mean tree (fresh Bits64) budget))
 
 -- one P mark, and where it marks two inputs, both
 pub data Mark : Type 0 where

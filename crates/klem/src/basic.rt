@@ -4,6 +4,7 @@ use crate::arg::Args;
 use crate::rows;
 use crate::said;
 use crate::said::Said;
+use crate::tables;
 use crate::words;
 use crate::words::Hex;
 use name_object::AmlName;
@@ -11,6 +12,8 @@ use name_object::NameSeg;
 use path::FlagAnswer;
 use path::TextAnswer;
 use pkg_length::PkgLength;
+use statement::frame;
+use statement::frame::Width;
 
 // Commands of bytes: the n that the line's hex spells stand at the front of the buffer.
 pub fn on_bytes(k: usize, a: Args, n: usize, buffer: &[u8]) -> Said {
@@ -24,7 +27,19 @@ pub fn on_bytes(k: usize, a: Args, n: usize, buffer: &[u8]) -> Said {
         rows::NAME => answer::name(name_object::name_string(given)),
         rows::SEG => seg(given),
         rows::TABLE => answer::table(header::read(given)),
+        rows::WIDTH => width(frame::width_of(tables::low_byte(a.x))),
+        rows::SSDT_WIDTH => width(frame::width_of_ssdt(
+            tables::low_byte(a.x),
+            tables::low_byte(a.y),
+        )),
         _ => answer::check(grammar::check(given)),
+    }
+}
+
+fn width(w: Width) -> Said {
+    match w {
+        Width::Bits32 => said::numbers(rows::NUMBER, 32, 0, 0),
+        Width::Bits64 => said::numbers(rows::NUMBER, 64, 0, 0),
     }
 }
 

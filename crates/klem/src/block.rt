@@ -9,9 +9,11 @@ use statement::End;
 use statement::RunAnswer;
 use statement::frame::CellAnswer;
 use statement::frame::Frame;
+use statement::frame::Width;
 
 // A run writes its answer itself, since it has 15 cells.
 pub fn run(
+    width: Width,
     budget: u64,
     block: &[u8],
     given: &[u8],
@@ -20,7 +22,7 @@ pub fn run(
     out: &mut [u8],
     at: usize,
 ) -> usize {
-    let f = cells(given);
+    let f = cells(given, width);
     if f.good {
         let frame = f.frame;
         return ran(out, at, statement::run(block, frame, budget), rows);
@@ -40,8 +42,8 @@ struct Given {
 }
 
 // Each turn reads a word, so the turns are fewer than the bytes.
-fn cells(given: &[u8]) -> Given {
-    let frame = Frame::new();
+fn cells(given: &[u8], width: Width) -> Given {
+    let frame = Frame::new(width);
     let mut f = Given { frame, good: true };
     let mut w = words::next(given, 0);
     let mut left = given.len();

@@ -15,6 +15,7 @@ use libc::STDERR_FILENO;
 use libc::STDIN_FILENO;
 use libc::STDOUT_FILENO;
 use said::Said;
+use statement::frame::Width;
 use words::Hex;
 ghost use Prim.Native.Nat.{_≤_, _<_};
 ghost use lib.ListN.{length};
@@ -96,6 +97,7 @@ fn reply(
     if s.form == rows::RUN {
         let block = words::part(bytes, 0, s.x as usize);
         return block::run(
+            width(k),
             a.x,
             block,
             words::behind(line, a.rest),
@@ -110,6 +112,14 @@ fn reply(
         return tables::write(a, body, line, line_number, rows, out, at);
     }
     show::said(out, at, said::at_line(s, line_number), rows)
+}
+
+// `run` has 64 bits, `run32` 32.
+fn width(k: usize) -> Width {
+    match k {
+        rows::RUN32 => Width::Bits32,
+        _ => Width::Bits64,
+    }
 }
 
 // What a command says. A run says how long its block is, and a table that is to be written how long its body is.
@@ -168,10 +178,11 @@ fn call(
 fn group(k: usize) -> u8 {
     match k {
         rows::PKG..=rows::NAME | rows::SEG | rows::CHECK | rows::TABLE => b'B',
+        rows::WIDTH | rows::SSDT_WIDTH => b'B',
         rows::TEXT_IS..=rows::RESOLVE => b'P',
         rows::WELL_FORMED | rows::DIGEST | rows::GET | rows::HANDLE | rows::OBJECT => b'L',
         rows::SEARCH | rows::SEARCH_LEVEL => b'L',
-        rows::RUN => b'R',
+        rows::RUN | rows::RUN32 => b'R',
         rows::WRITE_TABLE => b'W',
         rows::HELP => b'H',
         _ => b'E',

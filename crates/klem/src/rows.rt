@@ -2,7 +2,7 @@
 // least one blank at its end. One table is lent to all: proving a call that lends a text of its own costs as much as six calls that lend none.
 use crate::words;
 
-pub const TEXT: [u8; 4400] = *b"pkg HEX                                 \
+pub const TEXT: [u8; 4520] = *b"pkg HEX                                 \
     raw HEX                                 \
     fit LENGTH RAW                          \
     still END LENGTH                        \
@@ -35,6 +35,9 @@ pub const TEXT: [u8; 4400] = *b"pkg HEX                                 \
     search-level PATH SCOPE                 \
     check HEX                               \
     run BUDGET HEX [CELL=NUMBER ..]         \
+    run32 BUDGET HEX [CELL=NUMBER ..]       \
+    width REV                               \
+    ssdt-width REV REV                      \
     table HEX                               \
     write-table SIG REV REST BODY ROOM      \
     help [COMMAND]                          \
@@ -180,104 +183,110 @@ pub const CHECK: usize = 31;
 
 pub const RUN: usize = 32;
 
-pub const TABLE: usize = 33;
+pub const RUN32: usize = 33;
 
-pub const WRITE_TABLE: usize = 34;
+pub const WIDTH: usize = 34;
 
-pub const HELP: usize = 35;
+pub const SSDT_WIDTH: usize = 35;
 
-pub const COMMANDS: usize = 36;
+pub const TABLE: usize = 36;
+
+pub const WRITE_TABLE: usize = 37;
+
+pub const HELP: usize = 38;
+
+pub const COMMANDS: usize = 39;
 
 // The forms. `#` is the answer's next number, `@` its path, `$` the row that its next number says, `*` the commands' names. From
 // BAD_SIZE to WORDS they are faults of a line's words: the greatest is told, and of those from BAD_NUMBER on the first.
-pub const OK: usize = 36;
+pub const OK: usize = 39;
 
-pub const NUMBER: usize = 37;
+pub const NUMBER: usize = 40;
 
-pub const HANDLE_IS: usize = 38;
+pub const HANDLE_IS: usize = 41;
 
-pub const RAW_LENGTH: usize = 39;
+pub const RAW_LENGTH: usize = 42;
 
-pub const LENGTH: usize = 40;
+pub const LENGTH: usize = 43;
 
-pub const PKG_LENGTH: usize = 41;
+pub const PKG_LENGTH: usize = 44;
 
-pub const DSDT: usize = 42;
+pub const DSDT: usize = 45;
 
-pub const SSDT: usize = 43;
+pub const SSDT: usize = 46;
 
-pub const CHARS: usize = 44;
+pub const CHARS: usize = 47;
 
-pub const KINDS: usize = 45;
+pub const KINDS: usize = 48;
 
-pub const PATH: usize = 46;
+pub const PATH: usize = 49;
 
-pub const PATH_USED: usize = 47;
+pub const PATH_USED: usize = 50;
 
-pub const LEVEL_FOUND: usize = 48;
+pub const LEVEL_FOUND: usize = 51;
 
-pub const FOUND: usize = 49;
+pub const FOUND: usize = 52;
 
-pub const NAMES: usize = 50;
+pub const NAMES: usize = 53;
 
-pub const USAGE: usize = 51;
+pub const USAGE: usize = 54;
 
-pub const FINISHED: usize = 52;
+pub const FINISHED: usize = 55;
 
-pub const RETURNED: usize = 53;
+pub const RETURNED: usize = 56;
 
-pub const BREAK: usize = 54;
+pub const BREAK: usize = 57;
 
-pub const CONTINUE: usize = 55;
+pub const CONTINUE: usize = 58;
 
-pub const UNITS: usize = 56;
+pub const UNITS: usize = 59;
 
-pub const CELL: usize = 57;
+pub const CELL: usize = 60;
 
-pub const NO_CELL: usize = 58;
+pub const NO_CELL: usize = 61;
 
-pub const BAD_SIZE: usize = 59;
+pub const BAD_SIZE: usize = 62;
 
-pub const REFUSED: usize = 60;
+pub const REFUSED: usize = 63;
 
-pub const BAD_PATH: usize = 61;
+pub const BAD_PATH: usize = 64;
 
-pub const BAD_NUMBER: usize = 62;
+pub const BAD_NUMBER: usize = 65;
 
-pub const BAD_HEX: usize = 63;
+pub const BAD_HEX: usize = 66;
 
-pub const BAD_TYPE: usize = 64;
+pub const BAD_TYPE: usize = 67;
 
-pub const TOO_LONG: usize = 65;
+pub const TOO_LONG: usize = 68;
 
-pub const WORDS: usize = 66;
+pub const WORDS: usize = 69;
 
-pub const NO_COMMAND: usize = 67;
+pub const NO_COMMAND: usize = 70;
 
-pub const ONE_BYTE: usize = 68;
+pub const ONE_BYTE: usize = 71;
 
-pub const FOUR_BYTES: usize = 69;
+pub const FOUR_BYTES: usize = 72;
 
-pub const REST_BYTES: usize = 70;
+pub const REST_BYTES: usize = 73;
 
-pub const NO_WORD: usize = 71;
+pub const NO_WORD: usize = 74;
 
-pub const BAD_CELL: usize = 72;
+pub const BAD_CELL: usize = 75;
 
-pub const LONG_LINE: usize = 73;
+pub const LONG_LINE: usize = 76;
 
-pub const NOT_ONE: usize = 74;
+pub const NOT_ONE: usize = 77;
 
-pub const NOT_UNDERSTOOD: usize = 75;
+pub const NOT_UNDERSTOOD: usize = 78;
 
-pub const LINES: usize = 76;
+pub const LINES: usize = 79;
 
-pub const NOT_WRITTEN: usize = 77;
+pub const NOT_WRITTEN: usize = 80;
 
-pub const EMPTY: usize = 78;
+pub const EMPTY: usize = 81;
 
 // The refusals from 1 on stand behind this row.
-pub const REFUSALS: usize = 79;
+pub const REFUSALS: usize = 82;
 
 // A row without the blanks at its end.
 pub fn row(rows: &[u8], k: usize) -> &[u8] {

@@ -67,7 +67,7 @@ fn first_fault(s: usize, r: usize) -> usize {
     r
 }
 
-fn low_byte(n: u64) -> u8 {
+pub fn low_byte(n: u64) -> u8 {
     (n % 256) as u8
 }
 

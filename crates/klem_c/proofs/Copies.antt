@@ -1,4 +1,4 @@
--- A loop that copies: what is behind it is the source's, and what is before it is as it was.
+-- Loops over a frame's flags, and the places of parts in what klem_c is lent.
 use mathlib.Core.Path.{_≡_, refl, sym, _∙_, ap}
 use mathlib.Core.Bool.{Bool, true, false}
 use mathlib.Core.List.{List, [], _∷_, _++_, map, append-nil}
@@ -12,26 +12,10 @@ use mir.Val.{boolByte}
 use Rattle.grammar.specs.Grammar.{cells}
 use Rattle.klem_c.specs.Result.{flag}
 use Rattle.klem_c.specs.Frames.{frameSize, isSet, flagsAt, frameWords}
+use Rattle.statement.specs.Frames.{bits}
 use Rattle.statement.specs.declared.frame.Frame.{Frame}
-use lib.Seq.{take-at, set-at, drop-cons, take-suc, take-all, length-take-le, append-snoc, getD-take, take-suc-set}
-
-module _ {A : Type 0} (d s : List A) where
-  -- one more element
-  pub copied : (j : ℕ) (z : A) → j < length d → j < length s → set (take j s ++ drop j d) j (getD s j z) ≡ take (j + 1) s ++ drop (j + 1) d
-  copied j z hd hs =
-      let v : A = getD s j z in
-      ap (λ (r : List A). set (take j s ++ r) j v) (drop-cons d j z hd)
-      ∙ set-at (take j s) (getD d j z) (drop (suc j) d) v j (length-take-le j s (le-of-lt hs))
-      ∙ sym (append-snoc (take j s) v (drop (suc j) d))
-      ∙ ap (λ (r : List A). r ++ drop (suc j) d) (sym (take-suc s j z hs))
-      ∙ ap (λ (k : ℕ). take k s ++ drop k d) (sym (add-one j))
-
-  -- the whole source, and what is left of the destination
-  pub copied-over : (j : ℕ) → length s ≤ j → take j s ++ drop j d ≡ s ++ drop j d
-  copied-over j h = ap (λ (r : List A). r ++ drop j d) (take-all j s h)
-
-  pub copied-all : (j : ℕ) → length s ≤ j → length d ≤ j → take j s ++ drop j d ≡ s
-  copied-all j h k = copied-over j h ∙ ap (λ (r : List A). s ++ r) (drop-of-length-le d k) ∙ append-nil s
+use Rattle.statement.proofs.Copies.{copied, copied-over, copied-all}
+use lib.Seq.{take-at, drop-at, drop-drop, set-split, set-at, drop-cons, take-suc, take-all, length-take-le, append-snoc, getD-take, take-suc-set}
 
 -- a flag as the code casts it
 pub as-flag : (b : Bool) → boolByte b ≡ flag b
@@ -88,11 +72,34 @@ put-path xs ys m n h =
     put-tail 2 (set (set xs 0 m) 1 n) ys (simp (length-set, length-set) (omega arith))
     ∙ ap (λ (r : List ℕ). r ++ ys) (take-suc-set (set xs 0 m) 1 n (simp length-set h) ∙ ap (λ (r : List ℕ). r ++ (n ∷ [])) (take-suc-set xs 0 m (omega arith)))
 
--- the flags, then the numbers
-pub put-frame : (ws xs ys : List ℕ) (f : Frame) → length (f .set) ≡ cells → length ws ≡ frameSize → xs ≡ map flag (f .set) ++ drop cells ws → ys ≡ f .val →
-    putMid cells (length xs - cells) xs ys ≡ frameWords f
+-- the last word alone is behind the flags and the numbers
+last-word : (ws : List ℕ) (n : ℕ) → length ws ≡ frameSize → drop 30 (set ws 30 n) ≡ n ∷ []
+last-word ws n h =
+    ap (λ (r : List ℕ). drop 30 r) (set-split ws 30 n (omega arith))
+    ∙ drop-at (take 30 ws) (n ∷ drop 31 ws) 30 (length-take-le 30 ws (omega arith))
+    ∙ ap (λ (r : List ℕ). n ∷ r) (drop-of-length-le ws {i = 31} (omega arith))
+
+-- flags in the place of the first words leave the others
+pub flags-long : (ws xs : List ℕ) (fs : List Bool) (n : ℕ) → length fs ≡ cells → length ws ≡ frameSize → xs ≡ map flag fs ++ drop cells (set ws 30 n) → 30 ≤ length xs
+flags-long ws xs fs n l h e =
+    omega (arith, ap length e, length-append (map flag fs) (drop cells (set ws 30 n)), length-map fs flag, length-drop cells (set ws 30 n), length-set ws 30 n)
+
+-- the flags, then the numbers, then the width
+pub put-frame : (ws xs ys : List ℕ) (f : Frame) (n : ℕ) → length (f .set) ≡ cells → length ws ≡ frameSize → n ≡ bits (f .width) →
+    xs ≡ map flag (f .set) ++ drop cells (set ws 30 n) → ys ≡ f .val → putMid cells cells xs ys ≡ frameWords f
 unfolding frameWords
-put-frame ws xs ys f l h e v =
+put-frame ws xs ys f n l h b e v =
     let m : length (map flag (f .set)) ≡ cells = length-map (f .set) flag ∙ l in
-    let n : cells ≤ length xs = omega (arith, ap length e, length-append (map flag (f .set)) (drop cells ws)) in
-    put-tail cells xs ys n ∙ ap (λ (r : List ℕ). take cells r ++ ys) e ∙ ap (λ (r : List ℕ). r ++ ys) (take-at (map flag (f .set)) (drop cells ws) cells m) ∙ ap (λ (r : List ℕ). map flag (f .set) ++ r) v
+    let d : List ℕ = drop cells (set ws 30 n) in
+    let behind : drop cells (drop cells (map flag (f .set) ++ d)) ≡ n ∷ [] =
+    ap (λ (r : List ℕ). drop cells r) (drop-at (map flag (f .set)) d cells m) ∙ drop-drop cells cells (set ws 30 n) ∙ last-word ws n h in
+    ap (λ (r : List ℕ). putMid cells cells r ys) e
+    ∙ ap (λ (r : List ℕ). r ++ (ys ++ drop cells (drop cells (map flag (f .set) ++ d)))) (take-at (map flag (f .set)) d cells m)
+    ∙ ap (λ (r : List ℕ). map flag (f .set) ++ (ys ++ r)) (behind ∙ ap (λ (k : ℕ). k ∷ []) b)
+    ∙ ap (λ (r : List ℕ). map flag (f .set) ++ (r ++ (bits (f .width) ∷ []))) v
+
+pub frame-long : (f : Frame) → length (f .set) ≡ cells → length (f .val) ≡ cells → length (frameWords f) ≡ frameSize
+unfolding frameWords
+frame-long f l m =
+    let w : List ℕ = bits (f .width) ∷ [] in
+    omega (arith, length-append (map flag (f .set)) (f .val ++ w), length-append (f .val) w, length-map (f .set) flag)

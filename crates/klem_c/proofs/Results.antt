@@ -8,7 +8,8 @@ use Rattle.pkg_length.specs.Wrote.{Wrote}
 use Rattle.namespace.specs.Search.{searchSaid, levelSaid}
 use Rattle.namespace.specs.declared.SearchSaid.{SearchSaid}
 use Rattle.namespace.specs.declared.LevelSaid.{LevelSaid}
-use Rattle.klem_c.specs.Result.{one}
+use Rattle.klem_c.specs.Result.{one, badWidth}
+use Rattle.klem_c.specs.Frames.{isWidth, widthed}
 use Rattle.klem_c.specs.Paths.{texts}
 use mathlib.Core.Path.{_≡_, refl, _∙_, ap}
 use mathlib.Core.Bool.{Bool, true, false, _&&_, cond}
@@ -125,6 +126,24 @@ turned-alone true true new old = refl
 turned-alone true false new old = refl
 turned-alone false true new old = refl
 turned-alone false false new old = refl
+
+-- ## Widths
+
+-- what is told of a frame whose width is one, or 1004
+pub in-width : (n : ℕ) (r t : Reply) (a : Answer (List ℕ)) → wordsOf r ≡ cond (isWidth n) (wordsOf t) (resultOf (refuses badWidth n)) → wordsOf t ≡ resultOf a →
+    wordsOf r ≡ resultOf (widthed n a)
+in-width n r t a h w = h ∙ go (isWidth n)
+  where
+    go : (b : Bool) → cond b (wordsOf t) (resultOf (refuses badWidth n)) ≡ resultOf (cond b a (refuses badWidth n))
+    go true = w
+    go false = refl
+
+pub valued-widthed : {A : Type 0} (f : A → List ℕ) (n : ℕ) (s : Answer A) → widthed n (valued f s) ≡ valued f (widthed n s)
+valued-widthed f n s = go (isWidth n)
+  where
+    go : (b : Bool) → cond b (valued f s) (refuses badWidth n) ≡ valued f (cond b s (refuses badWidth n))
+    go true = refl
+    go false = refl
 
 -- ## Paths
 

@@ -1,15 +1,15 @@
 -- The check and the run of a control block: what a call leaves, by the grammar and the meaning of a block that is derived, and by the refusal of any other.
 use mathlib.Core.Path.{_≡_}
-use mathlib.Core.Bool.{false}
+use mathlib.Core.Bool.{true, false}
 use mathlib.Core.List.{List, [], _∷_}
 use Prim.Native.Nat.{ℕ}
 use Rattle.pkg_length.specs.Refusal.{Answer, gives, refuses}
 use Rattle.grammar.specs.Tree.{Stmts}
 use Rattle.grammar.specs.Reader.{readBlock}
 use Rattle.grammar.specs.Promise.{Derives}
-use Rattle.statement.specs.Meaning.{width, Ended, finished, returned, breakOut, continueOut, Outcome, mean}
-use Rattle.klem_c.specs.Result.{resultWords, badSlice, filled, resultOf, sized, After, leaves, answers}
-use Rattle.klem_c.specs.Frames.{fitsFrame, frameAt, frames}
+use Rattle.statement.specs.Meaning.{Ended, finished, returned, breakOut, continueOut, Outcome, mean}
+use Rattle.klem_c.specs.Result.{resultWords, badSlice, badWidth, filled, resultOf, sized, After, leaves, answers}
+use Rattle.klem_c.specs.Frames.{fitsFrame, isWidth, widthWord, frameAt, frames}
 
 -- 0 exactly where the grammar derives the block; else the refusal; KLEM_BAD_SLICE where the result does not fit
 pub record KlemCheck (block result : List ℕ) (left : After) : Type 0 where
@@ -34,8 +34,10 @@ runWords (refuses n p) u = filled (n ∷ p ∷ 0 ∷ 0 ∷ u ∷ [])
 abbrev pub ran : List ℕ → List ℕ → Outcome → After
 ran result frame o = frames result frame (runWords (o .end) (o .units)) (o .frame)
 
--- a block that nothing derives is refused, with the frame's words as they were; of any other the run is the meaning of its reading
+-- a frame of another width is refused; a block that nothing derives is refused, with the frame's words as they were; of any other the run is the meaning of
+-- its reading
 pub record KlemRun (block frame : List ℕ) (budget : ℕ) (result : List ℕ) (left : After) : Type 0 where
-  pub refusal : (n p : ℕ) → readBlock block ≡ refuses n p → left ≡ leaves (fitsFrame result frame) result frame (resultOf (refuses n p)) frame
-  pub meaning : (t : Stmts) → Derives block t → left ≡ ran result frame (mean width t (frameAt frame) budget)
+  pub unknown : isWidth (widthWord frame) ≡ false → left ≡ leaves (fitsFrame result frame) result frame (resultOf (refuses badWidth (widthWord frame))) frame
+  pub refusal : isWidth (widthWord frame) ≡ true → (n p : ℕ) → readBlock block ≡ refuses n p → left ≡ leaves (fitsFrame result frame) result frame (resultOf (refuses n p)) frame
+  pub meaning : isWidth (widthWord frame) ≡ true → (t : Stmts) → Derives block t → left ≡ ran result frame (mean t (frameAt frame) budget)
   pub unfit : fitsFrame result frame ≡ false → left ≡ record { number = badSlice; result = result; lent = frame }

@@ -1,18 +1,20 @@
--- A frame as KLEM_FRAME words: 15 flags, 0 where the cell is unset, then 15 numbers; and the calls on it.
-use Prim.Native.Nat.{ℕ}
-use mathlib.Core.Bool.{Bool, _&&_, not, cond}
-use mathlib.Core.List.{List, [], _++_, map}
+-- A frame as KLEM_FRAME words: 15 flags, 0 where the cell is unset, then 15 numbers, then 32 or 64, their width; and the calls on it.
+use Prim.Native.Nat.{ℕ, _+_}
+use mathlib.Core.Bool.{Bool, _&&_, _||_, not, cond}
+use mathlib.Core.List.{List, [], _∷_, _++_, map}
 use lib.Dec.{eqb, ltb}
-use lib.ListN.{take, drop}
-use Rattle.pkg_length.specs.Refusal.{gives, refuses}
+use lib.ListN.{take, drop, getD}
+use Rattle.pkg_length.specs.Refusal.{Answer, gives, refuses}
 use Rattle.grammar.specs.Grammar.{cells}
-use Rattle.statement.specs.Frames.{fresh, held, wrote}
+use Rattle.statement.specs.Frames.{bits, widthOf, fresh, held, wrote}
+use Rattle.statement.specs.declared.frame.Width.{Width}
+use Rattle.statement.specs.declared.frame.Width.the-variants.{Bits32, Bits64}
 use Rattle.statement.specs.declared.frame.Frame.{Frame}
-use Rattle.klem_c.specs.Result.{badCell, resultWords, resultOf, valued, one, flag, sized, After, leaves, answers}
+use Rattle.klem_c.specs.Result.{badCell, badWidth, resultWords, resultOf, valued, one, flag, sized, After, leaves, answers}
 
 -- KLEM_FRAME: the words of a frame
 abbrev pub frameSize : ℕ
-frameSize = 30
+frameSize = 31
 
 abbrev pub isSet : ℕ → Bool
 isSet w = not (eqb w 0)
@@ -20,11 +22,21 @@ isSet w = not (eqb w 0)
 unfoldable pub flagsAt : List ℕ → List Bool
 flagsAt ws = map isSet (take cells ws)
 
+-- the word behind the flags and the numbers
+abbrev pub widthWord : List ℕ → ℕ
+widthWord ws = getD ws (cells + cells) 0
+
+abbrev pub isWidth : ℕ → Bool
+isWidth n = eqb n 32 || eqb n 64
+
+abbrev pub widthFrom : ℕ → Width
+widthFrom b = cond (eqb b 32) Bits32 Bits64
+
 abbrev pub frameAt : List ℕ → Frame
-frameAt ws = record { set = flagsAt ws; val = drop cells ws }
+frameAt ws = record { set = flagsAt ws; val = take cells (drop cells ws); width = widthFrom (widthWord ws) }
 
 unfoldable pub frameWords : Frame → List ℕ
-frameWords f = map flag (f .set) ++ f .val
+frameWords f = map flag (f .set) ++ (f .val ++ (bits (f .width) ∷ []))
 
 abbrev pub fitsFrame : List ℕ → List ℕ → Bool
 fitsFrame result frame = sized resultWords result && sized frameSize frame
@@ -33,15 +45,20 @@ fitsFrame result frame = sized resultWords result && sized frameSize frame
 abbrev pub frames : List ℕ → List ℕ → List ℕ → Frame → After
 frames result frame words f = leaves (fitsFrame result frame) result frame words (frameWords f)
 
-unfoldable pub klemFrameNew : List ℕ → List ℕ → After
-klemFrameNew frame result = frames result frame (resultOf (gives [])) fresh
+-- a width is 32 or 64
+abbrev pub widthed : {A : Type 0} → ℕ → Answer A → Answer A
+widthed n a = cond (isWidth n) a (refuses badWidth n)
+
+unfoldable pub klemFrameNew : List ℕ → ℕ → List ℕ → After
+klemFrameNew frame width result =
+    leaves (fitsFrame result frame) result frame (resultOf (widthed width (gives []))) (cond (isWidth width) (frameWords (fresh (widthFrom width))) frame)
 
 unfoldable pub klemFrameGet : List ℕ → ℕ → List ℕ → After
-klemFrameGet frame cell result = answers (fitsFrame result frame) result (valued one (held (frameAt frame) cell))
+klemFrameGet frame cell result = answers (fitsFrame result frame) result (valued one (widthed (widthWord frame) (held (frameAt frame) cell)))
 
 -- a cell that is not there is refused, and the frame's words stay
 unfoldable pub klemFrameSet : List ℕ → ℕ → ℕ → List ℕ → After
 klemFrameSet frame cell number result =
     leaves (fitsFrame result frame) result frame
-    (resultOf (cond (ltb cell cells) (gives []) (refuses badCell cell)))
-    (cond (ltb cell cells) (frameWords (wrote (frameAt frame) cell number)) frame)
+    (resultOf (widthed (widthWord frame) (cond (ltb cell cells) (gives []) (refuses badCell cell))))
+    (cond (isWidth (widthWord frame) && ltb cell cells) (frameWords (wrote (frameAt frame) cell number)) frame)

@@ -21,6 +21,10 @@ badType = 1002
 abbrev pub badCell : ℕ
 badCell = 1003
 
+-- KLEM_BAD_WIDTH: a frame's width is neither 32 nor 64; the place is that width
+abbrev pub badWidth : ℕ
+badWidth = 1004
+
 -- KLEM_RESULT: the words of a result
 abbrev pub resultWords : ℕ
 resultWords = 8

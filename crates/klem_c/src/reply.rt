@@ -15,12 +15,13 @@ ghost use Rattle.grammar.specs.Grammar.{cells};
 ghost use Rattle.statement.specs.Frames.{cellSaid};
 ghost use Rattle.grammar.specs.Promise.{checkSaid};
 ghost use Rattle.statement.specs.Promise.{endSaid};
-ghost use Rattle.klem_c.specs.Result.{badCell, resultWords, resultOf, valued, nothing, one, flag, sized, leaves, wordsOf};
+ghost use Rattle.klem_c.specs.Result.{badCell, badWidth, resultWords, resultOf, valued, nothing, one, flag, sized, leaves, wordsOf};
 ghost use Rattle.klem_c.specs.Paths.{pathSize, pathBytes};
 ghost use Rattle.klem_c.specs.Headers.{signatureNumber, headerWords};
 ghost use Rattle.klem_c.specs.Lengths.{rawWords, lengthWords, pkgWords};
 ghost use Rattle.klem_c.specs.Tables.{hitWords};
 ghost use Rattle.klem_c.specs.Blocks.{runWords};
+ghost use Rattle.klem_c.specs.Frames.{isWidth};
 use crate::frames;
 use crate::slices;
 use grammar::CheckAnswer;
@@ -46,6 +47,9 @@ use statement::frame::CellAnswer;
 
 // What klem_frame_set returns where a frame has no such cell.
 const BAD_CELL: u64 = 1003;
+
+// What a call on a frame returns where the width is neither 32 nor 64.
+pub(crate) const BAD_WIDTH: u64 = 1004;
 
 // A refusal's number and place, or 0, 0 and up to three values.
 pub struct Reply {
@@ -285,6 +289,16 @@ pub(crate) fn verdict(a: CheckAnswer) -> Reply
 }
 
 // What klem_frame_set says of a cell.
+// What is told where the frame's width is one.
+pub(crate) fn in_width(width: u64, reply: Reply) -> Reply
+    ensures { λ r. ⌜ wordsOf r ≡ cond (isWidth width) (wordsOf reply) (resultOf (refuses badWidth width)) ⌝ }
+{
+    if frames::is_width(width) {
+        return reply;
+    }
+    numbered(BAD_WIDTH, width)
+}
+
 pub(crate) fn set_cell(cell: usize) -> Reply
     ensures { λ r. ⌜ wordsOf r ≡ resultOf (cond (ltb cell cells) (gives []) (refuses badCell cell)) ⌝ }
 {

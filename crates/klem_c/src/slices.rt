@@ -22,7 +22,7 @@ pub(crate) const LETTERS: usize = 4;
 // A header's bytes from 10 on.
 pub(crate) const REST: usize = 26;
 
-pub(crate) const FRAME: usize = 30;
+pub(crate) const FRAME: usize = 31;
 
 pub(crate) const RESULT: usize = 8;
 

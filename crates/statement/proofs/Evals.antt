@@ -11,6 +11,7 @@ use borrow.Author.Tests.{le-leb, leb-true, ne-eqb}
 use Rattle.pkg_length.specs.Refusal.{Answer, gives, refuses, blockLimit}
 use Rattle.pkg_length.specs.Little.{little}
 use Rattle.statement.specs.declared.frame.Frame.{Frame}
+use Rattle.statement.specs.declared.frame.Width.the-variants.{Bits64}
 use Rattle.statement.specs.declared.exec.Span.{Span}
 use Rattle.statement.specs.declared.eval.Value.{Value}
 use Rattle.statement.specs.declared.eval.Value.the-variants.{Num, Missing}
@@ -125,7 +126,7 @@ pub dest-cell-acc : (at : ℕ) (s : List ℕ) → Accepts (readDest ToCell 0 (dr
 dest-cell-acc at s acc = acc-then (readPlace 0 (drop at s)) _ acc
 
 pub target-inside : (at : ℕ) (s : List ℕ) → Accepts (readDest ToTarget 0 (drop at s)) → at < length s
-target-inside at s acc = target-is at s 0 (record { set = []; val = [] }) acc
+target-inside at s acc = target-is at s 0 (record { set = []; val = []; width = Bits64 }) acc
 
 -- ## Operands
 

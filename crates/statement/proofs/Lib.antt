@@ -1,3 +1,4 @@
+pub mod Copies
 mod Numbers
 pub mod Theorems
 pub mod Units

@@ -15,7 +15,8 @@ use Rattle.statement.specs.declared.frame.Frame.{Frame}
 use Rattle.grammar.specs.Tree.{Stmts}
 use Rattle.grammar.specs.Grammar.{depthLimit}
 use Rattle.grammar.specs.Reader.{Read, readList, readBlock}
-use Rattle.statement.specs.Meaning.{width, Ended, finished, returned, breakOut, continueOut, ran, Outcome, outcome, mean}
+use Rattle.statement.specs.Frames.{bits, begun}
+use Rattle.statement.specs.Meaning.{Ended, finished, returned, breakOut, continueOut, ran, Outcome, outcome, mean}
 use Rattle.grammar.specs.Said.{Accepts}
 use Rattle.statement.specs.Lent.{ranOf}
 use Rattle.grammar.specs.Promise.{Derives, checkSaid, Checked}
@@ -51,14 +52,14 @@ run-from-refusal s f budget v e c q =
 
 -- from what the code ran
 pub run-from-meaning : (s : List ℕ) (f : Frame) (budget : ℕ) (v : CheckAnswer) (g : Frame) (u : ℕ) (a : Answer Ended) (e : End) → Checked s v → v ≡ CheckAnswer.Accepted →
-    ran g u a ≡ ranOf width (readList depthLimit 0 s) f budget → endSaid e ≡ a → HasRun s f budget (record { began = true; end = e; units = budget - u; frame = g })
+    ran g u a ≡ ranOf (bits (f .width)) (readList depthLimit 0 s) (begun f) budget → endSaid e ≡ a → HasRun s f budget (record { began = true; end = e; units = budget - u; frame = g })
 run-from-meaning s f budget v g u a e c q ex ee =
     record {
       stopped = λ n p h. absurd (let (t, d) = c .reading q in refused-is-underived s n p h t d);
       started = λ t d. refl;
       refusal = λ n p h. absurd (let (t, d) = c .reading q in refused-is-underived s n p h t d);
       meaning = λ t d.
-          rw ee (ap (outcome budget) (ex ∙ ap (λ (R : Answer (Read Stmts)). ranOf width R f budget) (lists-complete depthLimit t s (d .derived) 0)));
+          rw ee (ap (outcome budget) (ex ∙ ap (λ (R : Answer (Read Stmts)). ranOf (bits (f .width)) R (begun f) budget) (lists-complete depthLimit t s (d .derived) 0)));
     }
 
 -- a run of a block that nothing derives: the definition's refusal, the frame as it came, no unit
@@ -67,7 +68,7 @@ pub run-refuses : (s : List ℕ) (f : Frame) (budget : ℕ) (r : RunAnswer) → 
 run-refuses s f budget r h none = let (n, p, e) = underived-is-refused s none in (n, p, e, h .refusal n p e)
 
 -- a run of any other block is the meaning of its one reading, for every frame and budget
-pub run-is-meaning : (s : List ℕ) (f : Frame) (budget : ℕ) (r : RunAnswer) → HasRun s f budget r → (t : Stmts) → Derives s t → runSaid r ≡ mean width t f budget
+pub run-is-meaning : (s : List ℕ) (f : Frame) (budget : ℕ) (r : RunAnswer) → HasRun s f budget r → (t : Stmts) → Derives s t → runSaid r ≡ mean t f budget
 run-is-meaning s f budget r h t d = h .meaning t d
 
 -- a run gives one answer for each block, frame and budget

@@ -11,8 +11,7 @@ use Rattle.grammar.specs.declared.opcode.Plain.{Plain}
 use Rattle.grammar.specs.declared.opcode.Plain.the-variants.{Break, Continue, BreakPoint, Noop}
 use Rattle.grammar.specs.declared.opcode.OneOp.{OneOp}
 use Rattle.grammar.specs.declared.opcode.TwoOp.{TwoOp}
-use Rattle.statement.specs.declared.number.Width.{Width}
-use Rattle.statement.specs.declared.number.Width.the-variants.{Bits32, Bits64}
+use Rattle.statement.specs.declared.frame.Width.{Width}
 use Rattle.statement.specs.declared.exec.Span.{Span}
 use Rattle.statement.specs.declared.eval.Value.{Value}
 use Rattle.statement.specs.declared.eval.Value.the-variants.{Num, Missing}
@@ -25,11 +24,6 @@ use Rattle.grammar.specs.Said.{Accepts}
 use Rattle.grammar.specs.Reader.{Read, took, Operand, operand, Operands, oneOf, twoOf, Head, whileOf, readTerm, readPackage, readStmt, readList}
 use Rattle.statement.specs.Meaning.{frames, binary, Ran, ran, thenDo, spend, put, eval, Ended, finished, returned, breakOut, continueOut, Go, goOf, oneTurn, turns, doStmt, doStmts}
 
--- how many bits numbers have
-abbrev pub bits : Width → ℕ
-bits Bits32 = 32
-bits Bits64 = 64
-
 abbrev pub spanned : Span → Raw
 spanned r = record { raw = r .raw; used = r .used }
 
@@ -39,8 +33,8 @@ pub record Spans (s : List ℕ) (at : ℕ) (r : Span) : Type 0 where
   pub own : r .used ≤ r .raw
   pub fits : at + r .raw ≤ length s
 
-abbrev pub framed : List Bool → List ℕ → Frame
-framed s v = record { set = s; val = v }
+abbrev pub framed : Width → List Bool → List ℕ → Frame
+framed w s v = record { set = s; val = v; width = w }
 
 -- ## Terms
 
@@ -57,8 +51,8 @@ valueSaid (Num n next) = gives (took n next)
 valueSaid (Missing c) = refuses 23 c
 
 -- no term takes a unit here
-abbrev pub evIn : List Bool → List ℕ → Value → Ran Frame (Read ℕ)
-evIn s v o = ran (framed s v) 0 (valueSaid o)
+abbrev pub evIn : Width → List Bool → List ℕ → Value → Ran Frame (Read ℕ)
+evIn w s v o = ran (framed w s v) 0 (valueSaid o)
 
 abbrev pub evAt : ℕ → Ran Frame ℕ → Ran Frame (Read ℕ)
 evAt next r = thenDo r (λ n f u. ran f u (gives (took n next)))
@@ -99,8 +93,8 @@ outSaid ContinueOut = gives continueOut
 outSaid Spent = refuses 22 0
 outSaid (Unset c) = refuses 23 c
 
-abbrev pub ranIn : List Bool → List ℕ → Done → Ran Frame Ended
-ranIn s v r = ran (framed s v) (r .units) (outSaid (r .out))
+abbrev pub ranIn : Width → List Bool → List ℕ → Done → Ran Frame Ended
+ranIn w s v r = ran (framed w s v) (r .units) (outSaid (r .out))
 
 -- a statement ends and reading goes on behind it, or what it stands in ends
 pub data Way : Type 0 where
@@ -119,15 +113,15 @@ stepAt next r = thenDo r (λ e f u. ran f u (gives (wayOf next e)))
 abbrev pub stepF : Frame → Moved → Ran Frame Way
 stepF f r = stepAt (r .next) (ran f (r .units) (outSaid (r .out)))
 
-abbrev pub stepIn : List Bool → List ℕ → Moved → Ran Frame Way
-stepIn s v r = stepF (framed s v) r
+abbrev pub stepIn : Width → List Bool → List ℕ → Moved → Ran Frame Way
+stepIn w s v r = stepF (framed w s v) r
 
 -- a turn answers as a list does: a body that finished asks for another turn
 abbrev pub turnAt : Ran Frame Ended → Ran Frame Go
 turnAt r = thenDo r (λ e f u. ran f u (gives (goOf e)))
 
-abbrev pub turnIn : List Bool → List ℕ → Done → Ran Frame Go
-turnIn s v r = turnAt (ranIn s v r)
+abbrev pub turnIn : Width → List Bool → List ℕ → Done → Ran Frame Go
+turnIn w s v r = turnAt (ranIn w s v r)
 
 module _ (w : ℕ) where
   -- a list that was read

@@ -14,13 +14,9 @@ use Rattle.grammar.specs.declared.opcode.OneOp.the-variants.{Store, LNot}
 use Rattle.grammar.specs.declared.opcode.TwoOp.{TwoOp}
 use Rattle.grammar.specs.declared.opcode.TwoOp.the-variants.{Add, And, LAnd, LOr, LEqual, LGreater, LLess}
 use Rattle.grammar.specs.Tree.{Place, cell, Target, nowhere, to, Term, const, read, step, one, two, Stmt, plain, return, ifElse, while, expr, Stmts, nil, cons}
-use Rattle.statement.specs.Frames.{held, wrote}
+use Rattle.statement.specs.Frames.{bits, held, wrote, begun}
 
 -- ## Numbers
-
--- numbers have 64 bits
-abbrev pub width : ℕ
-width = 64
 
 -- the largest number of w bits
 abbrev pub allOnes : ℕ → ℕ
@@ -192,5 +188,6 @@ pub record Outcome : Type 0 where
 abbrev pub outcome : ℕ → Ran Frame Ended → Outcome
 outcome budget (ran f u e) = record { end = e; units = budget - u; frame = f }
 
-abbrev pub mean : ℕ → Stmts → Frame → ℕ → Outcome
-mean w t f budget = outcome budget (doStmts frames w t f budget)
+-- in the frame's width, whose cells are of that width from here on
+abbrev pub mean : Stmts → Frame → ℕ → Outcome
+mean t f budget = outcome budget (doStmts frames (bits (f .width)) t (begun f) budget)

@@ -11,7 +11,7 @@ use Rattle.statement.specs.declared.End.{End}
 use Rattle.statement.specs.declared.End.the-variants.{Finished, Returned, BreakOut, ContinueOut}
 use Rattle.statement.specs.declared.RunAnswer.{RunAnswer}
 use Rattle.statement.specs.declared.frame.Frame.{Frame}
-use Rattle.statement.specs.Meaning.{width, Ended, finished, returned, breakOut, continueOut, Outcome, mean}
+use Rattle.statement.specs.Meaning.{Ended, finished, returned, breakOut, continueOut, Outcome, mean}
 
 abbrev pub endSaid : End → Answer Ended
 endSaid Finished = gives finished
@@ -29,4 +29,4 @@ pub record HasRun (s : List ℕ) (f : Frame) (budget : ℕ) (r : RunAnswer) : Ty
   pub stopped : (n p : ℕ) → readBlock s ≡ refuses n p → r .began ≡ false
   pub started : (t : Stmts) → Derives s t → r .began ≡ true
   pub refusal : (n p : ℕ) → readBlock s ≡ refuses n p → runSaid r ≡ record { end = refuses n p; units = 0; frame = f }
-  pub meaning : (t : Stmts) → Derives s t → runSaid r ≡ mean width t f budget
+  pub meaning : (t : Stmts) → Derives s t → runSaid r ≡ mean t f budget

@@ -1,6 +1,6 @@
 // Evaluating a term that was read. The frame is lent, as its two arrays, so that nothing of it is copied.
+use crate::frame::Width;
 use crate::number;
-use crate::number::Width;
 use grammar::opcode;
 use grammar::opcode::Dest;
 use grammar::opcode::OneOp;
@@ -14,10 +14,10 @@ ghost use Rattle.pkg_length.specs.Refusal.{blockLimit};
 ghost use Rattle.grammar.specs.Grammar.{cells};
 ghost use Rattle.grammar.specs.Tree as tree;
 ghost use Rattle.grammar.specs.Reader.{readDest, readOne, readTwo, readTerm};
-ghost use Rattle.statement.specs.Frames.{wrote};
+ghost use Rattle.statement.specs.Frames.{bits, wrote};
 ghost use Rattle.statement.specs.Meaning.{frames, eval};
 ghost use Rattle.grammar.specs.Said.{Accepts};
-ghost use Rattle.statement.specs.Lent.{bits, TermReady, framed, evIn, evAt, evaledBy, evOne, evTwo, evSecond, evPut};
+ghost use Rattle.statement.specs.Lent.{TermReady, framed, evIn, evAt, evaledBy, evOne, evTwo, evSecond, evPut};
 
 // A term's number and where reading goes on, or the unset cell that was read.
 pub enum Value {
@@ -33,7 +33,7 @@ fn wide(b: u8) -> usize
 
 fn load_cell(set: &[bool; 15], val: &[u64; 15], cell: usize, next: usize, w: Width) -> Value
     requires { ⌜ cell < cells ⌝ }
-    ensures { λ r. ⌜ evIn (now (set .entry)) (now (val .entry)) r ≡ evAt next (eval frames (bits w) (tree.read (tree.cell cell)) (framed (now (set .entry)) (now (val .entry))) 0) ⌝ }
+    ensures { λ r. ⌜ evIn w (now (set .entry)) (now (val .entry)) r ≡ evAt next (eval frames (bits w) (tree.read (tree.cell cell)) (framed w (now (set .entry)) (now (val .entry))) 0) ⌝ }
 {
     if set[cell] {
         Value::Num(val[cell], next)
@@ -44,7 +44,7 @@ fn load_cell(set: &[bool; 15], val: &[u64; 15], cell: usize, next: usize, w: Wid
 
 fn write_cell(set: &mut [bool; 15], val: &mut [u64; 15], cell: usize, n: u64)
     requires { ⌜ cell < cells ⌝ }
-    ensures { λ _. ⌜ framed (now (set .exit)) (now (val .exit)) ≡ wrote (framed (now (set .entry)) (now (val .entry))) cell n ⌝ }
+    ensures { λ _. ⌜ ((w : Width) → framed w (now (set .exit)) (now (val .exit)) ≡ wrote (framed w (now (set .entry)) (now (val .entry))) cell n) ⌝ }
 {
     set[cell] = true;
     val[cell] = n;
@@ -59,7 +59,7 @@ fn step_cell(
     w: Width,
 ) -> Value
     requires { ⌜ cell < cells ⌝ }
-    ensures { λ r. ⌜ evIn (now (set .exit)) (now (val .exit)) r ≡ evAt next (eval frames (bits w) (tree.step op (tree.cell cell)) (framed (now (set .entry)) (now (val .entry))) 0) ⌝ }
+    ensures { λ r. ⌜ evIn w (now (set .exit)) (now (val .exit)) r ≡ evAt next (eval frames (bits w) (tree.step op (tree.cell cell)) (framed w (now (set .entry)) (now (val .entry))) 0) ⌝ }
 {
     if set[cell] {
         let n = number::stepped(op, val[cell], w);
@@ -80,7 +80,7 @@ fn store(
     val: &mut [u64; 15],
 ) -> Value
     requires { ⌜ (at ≤ length (now part)) × (length (now part) ≤ blockLimit) × Accepts (readDest d 0 (drop at (now part))) ⌝ }
-    ensures { λ r. ⌜ evIn (now (set .exit)) (now (val .exit)) r ≡ evaledBy (evPut n) at (readDest d 0 (drop at (now (part .entry)))) (framed (now (set .entry)) (now (val .entry))) ⌝ }
+    ensures { λ r. ⌜ ((w : Width) → evIn w (now (set .exit)) (now (val .exit)) r ≡ evaledBy (evPut n) at (readDest d 0 (drop at (now (part .entry)))) (framed w (now (set .entry)) (now (val .entry)))) ⌝ }
 {
     match d {
         Dest::Nowhere => Value::Num(n, at),
@@ -108,7 +108,7 @@ pub(crate) fn eval(
     w: Width,
 ) -> Value
     requires { ⌜ TermReady (now part) at left ⌝ }
-    ensures { λ r. ⌜ evIn (now (set .exit)) (now (val .exit)) r ≡ evaledBy (eval frames (bits w)) at (readTerm left 0 (drop at (now (part .entry)))) (framed (now (set .entry)) (now (val .entry))) ⌝ }
+    ensures { λ r. ⌜ evIn w (now (set .exit)) (now (val .exit)) r ≡ evaledBy (eval frames (bits w)) at (readTerm left 0 (drop at (now (part .entry)))) (framed w (now (set .entry)) (now (val .entry))) ⌝ }
 {
     let b = part[at];
     if opcode::is_cell(b) {
@@ -127,7 +127,7 @@ pub(crate) fn term_arg(
     w: Width,
 ) -> Value
     requires { ⌜ TermReady (now part) at left ⌝ }
-    ensures { λ r. ⌜ evIn (now (set .exit)) (now (val .exit)) r ≡ evaledBy (eval frames (bits w)) at (readTerm left 0 (drop at (now (part .entry)))) (framed (now (set .entry)) (now (val .entry))) ⌝ }
+    ensures { λ r. ⌜ evIn w (now (set .exit)) (now (val .exit)) r ≡ evaledBy (eval frames (bits w)) at (readTerm left 0 (drop at (now (part .entry)))) (framed w (now (set .entry)) (now (val .entry))) ⌝ }
 {
     let op = opcode::term_op(part[at]);
     match op {
@@ -162,7 +162,7 @@ fn one(
     w: Width,
 ) -> Value
     requires { ⌜ (length (now part) ≤ blockLimit) × Accepts (readOne (readTerm left) d 0 (drop at (now part))) ⌝ }
-    ensures { λ r. ⌜ evIn (now (set .exit)) (now (val .exit)) r ≡ evaledBy (evOne (bits w) op) at (readOne (readTerm left) d 0 (drop at (now (part .entry)))) (framed (now (set .entry)) (now (val .entry))) ⌝ }
+    ensures { λ r. ⌜ evIn w (now (set .exit)) (now (val .exit)) r ≡ evaledBy (evOne (bits w) op) at (readOne (readTerm left) d 0 (drop at (now (part .entry)))) (framed w (now (set .entry)) (now (val .entry))) ⌝ }
 {
     let a = eval(part, at, left, set, val, w);
     match a {
@@ -182,7 +182,7 @@ fn two(
     w: Width,
 ) -> Value
     requires { ⌜ (length (now part) ≤ blockLimit) × Accepts (readTwo (readTerm left) d 0 (drop at (now part))) ⌝ }
-    ensures { λ r. ⌜ evIn (now (set .exit)) (now (val .exit)) r ≡ evaledBy (evTwo (bits w) op) at (readTwo (readTerm left) d 0 (drop at (now (part .entry)))) (framed (now (set .entry)) (now (val .entry))) ⌝ }
+    ensures { λ r. ⌜ evIn w (now (set .exit)) (now (val .exit)) r ≡ evaledBy (evTwo (bits w) op) at (readTwo (readTerm left) d 0 (drop at (now (part .entry)))) (framed w (now (set .entry)) (now (val .entry))) ⌝ }
 {
     let a = eval(part, at, left, set, val, w);
     match a {
@@ -204,7 +204,7 @@ fn second(
     w: Width,
 ) -> Value
     requires { ⌜ (length (now part) ≤ blockLimit) × Accepts (readOne (readTerm left) d 0 (drop at (now part))) ⌝ }
-    ensures { λ r. ⌜ evIn (now (set .exit)) (now (val .exit)) r ≡ evaledBy (evSecond (bits w) op n) at (readOne (readTerm left) d 0 (drop at (now (part .entry)))) (framed (now (set .entry)) (now (val .entry))) ⌝ }
+    ensures { λ r. ⌜ evIn w (now (set .exit)) (now (val .exit)) r ≡ evaledBy (evSecond (bits w) op n) at (readOne (readTerm left) d 0 (drop at (now (part .entry)))) (framed w (now (set .entry)) (now (val .entry))) ⌝ }
 {
     let b = eval(part, at, left, set, val, w);
     match b {

@@ -2,7 +2,7 @@
 use crate::eval::Value;
 use crate::eval::eval;
 use crate::eval::term_arg;
-use crate::number::Width;
+use crate::frame::Width;
 use grammar::opcode;
 use grammar::opcode::Plain;
 use grammar::opcode::StmtOp;
@@ -16,7 +16,8 @@ ghost use Rattle.grammar.specs.Grammar.{depthLimit};
 ghost use Rattle.grammar.specs.Reader.{readTerm, readPackage, readHead, readElse, readIf, readStmt, readList};
 ghost use Rattle.grammar.specs.Said.{upTo};
 ghost use Rattle.grammar.specs.Said.{Accepts};
-ghost use Rattle.statement.specs.Lent.{bits, Spans, StmtReady, framed, ranIn, stepIn, turnIn, ranOf, stepOf, stepDo, whileDo, TurnsOk, turnOf, turnsBy, isFinished, turnsOn, whileOut, movedTo, plainTo, returnTo, dropTo};
+ghost use Rattle.statement.specs.Frames.{bits};
+ghost use Rattle.statement.specs.Lent.{Spans, StmtReady, framed, ranIn, stepIn, turnIn, ranOf, stepOf, stepDo, whileDo, TurnsOk, turnOf, turnsBy, isFinished, turnsOn, whileOut, movedTo, plainTo, returnTo, dropTo};
 
 // How a statement or a list ended (parser.rs: Propagate).
 pub enum Out {
@@ -216,7 +217,7 @@ pub(crate) fn term_list(
     w: Width,
 ) -> Done
     requires { ⌜ (length (now part) ≤ blockLimit) × Accepts (readList left 0 (now part)) ⌝ }
-    ensures { λ r. ⌜ ranIn (now (set .exit)) (now (val .exit)) r ≡ ranOf (bits w) (readList left 0 (now (part .entry))) (framed (now (set .entry)) (now (val .entry))) units ⌝ }
+    ensures { λ r. ⌜ ranIn w (now (set .exit)) (now (val .exit)) r ≡ ranOf (bits w) (readList left 0 (now (part .entry))) (framed w (now (set .entry)) (now (val .entry))) units ⌝ }
 {
     let mut at = 0;
     let mut u = units;
@@ -249,7 +250,7 @@ fn statement_opcode(
     w: Width,
 ) -> Moved
     requires { ⌜ StmtReady (now part) at left ⌝ }
-    ensures { λ r. ⌜ stepIn (now (set .exit)) (now (val .exit)) r ≡ stepOf (bits w) at (readStmt left 0 (drop at (now (part .entry)))) (framed (now (set .entry)) (now (val .entry))) units ⌝ }
+    ensures { λ r. ⌜ stepIn w (now (set .exit)) (now (val .exit)) r ≡ stepOf (bits w) at (readStmt left 0 (drop at (now (part .entry)))) (framed w (now (set .entry)) (now (val .entry))) units ⌝ }
 {
     if units == 0 {
         return Moved {
@@ -285,7 +286,7 @@ fn def_if_else(
     w: Width,
 ) -> Moved
     requires { ⌜ (at ≤ length (now part)) × (length (now part) ≤ blockLimit) × Accepts (readIf (readList left) 0 (drop at (now part))) ⌝ }
-    ensures { λ r. ⌜ stepIn (now (set .exit)) (now (val .exit)) r ≡ stepDo (bits w) at (readIf (readList left) 0 (drop at (now (part .entry)))) (framed (now (set .entry)) (now (val .entry))) units ⌝ }
+    ensures { λ r. ⌜ stepIn w (now (set .exit)) (now (val .exit)) r ≡ stepDo (bits w) at (readIf (readList left) 0 (drop at (now (part .entry)))) (framed w (now (set .entry)) (now (val .entry))) units ⌝ }
 {
     let p = pkg(part, at);
     let end = at + p.raw;
@@ -318,7 +319,7 @@ fn def_else(
     w: Width,
 ) -> Done
     requires { ⌜ (at ≤ length (now part)) × (length (now part) ≤ blockLimit) × Accepts (readElse (readList left) 0 (drop at (now part))) ⌝ }
-    ensures { λ r. ⌜ ranIn (now (set .exit)) (now (val .exit)) r ≡ ranOf (bits w) (readElse (readList left) 0 (drop at (now (part .entry)))) (framed (now (set .entry)) (now (val .entry))) units ⌝ }
+    ensures { λ r. ⌜ ranIn w (now (set .exit)) (now (val .exit)) r ≡ ranOf (bits w) (readElse (readList left) 0 (drop at (now (part .entry)))) (framed w (now (set .entry)) (now (val .entry))) units ⌝ }
 {
     if part.len() <= at {
         return Done {
@@ -348,7 +349,7 @@ fn def_while(
     w: Width,
 ) -> Moved
     requires { ⌜ (at ≤ length (now part)) × (length (now part) ≤ blockLimit) × Accepts (readHead (readList left) 0 (drop at (now part))) ⌝ }
-    ensures { λ r. ⌜ stepIn (now (set .exit)) (now (val .exit)) r ≡ whileDo (bits w) at (readHead (readList left) 0 (drop at (now (part .entry)))) (framed (now (set .entry)) (now (val .entry))) units ⌝ }
+    ensures { λ r. ⌜ stepIn w (now (set .exit)) (now (val .exit)) r ≡ whileDo (bits w) at (readHead (readList left) 0 (drop at (now (part .entry)))) (framed w (now (set .entry)) (now (val .entry))) units ⌝ }
 {
     let p = pkg(part, at);
     let end = at + p.raw;
@@ -366,7 +367,7 @@ fn turns(
     w: Width,
 ) -> Done
     requires { ⌜ (end ≤ length (now part)) × (length (now part) ≤ blockLimit) × TurnsOk left (now part) end at (readTerm depthLimit 0 (drop at (now part))) ⌝ }
-    ensures { λ r. ⌜ ranIn (now (set .exit)) (now (val .exit)) r ≡ turnsBy left (now (part .entry)) end at (bits w) (readTerm depthLimit 0 (drop at (now (part .entry)))) (framed (now (set .entry)) (now (val .entry))) units ⌝ }
+    ensures { λ r. ⌜ ranIn w (now (set .exit)) (now (val .exit)) r ≡ turnsBy left (now (part .entry)) end at (bits w) (readTerm depthLimit 0 (drop at (now (part .entry)))) (framed w (now (set .entry)) (now (val .entry))) units ⌝ }
 {
     let mut u = units;
     loop {
@@ -395,7 +396,7 @@ fn turn(
     w: Width,
 ) -> Done
     requires { ⌜ (end ≤ length (now part)) × (length (now part) ≤ blockLimit) × TurnsOk left (now part) end at (readTerm depthLimit 0 (drop at (now part))) ⌝ }
-    ensures { λ r. ⌜ turnIn (now (set .exit)) (now (val .exit)) r ≡ turnOf left (now (part .entry)) end at (bits w) (readTerm depthLimit 0 (drop at (now (part .entry)))) (framed (now (set .entry)) (now (val .entry))) units ⌝ }
+    ensures { λ r. ⌜ turnIn w (now (set .exit)) (now (val .exit)) r ≡ turnOf left (now (part .entry)) end at (bits w) (readTerm depthLimit 0 (drop at (now (part .entry)))) (framed w (now (set .entry)) (now (val .entry))) units ⌝ }
 {
     if units == 0 {
         return Done {

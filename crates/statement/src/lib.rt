@@ -1,7 +1,6 @@
 // Control blocks (statement.rs): the run of a block that the grammar derives.
 use crate::exec::Out;
 use crate::frame::Frame;
-use crate::number::Width;
 use grammar::CheckAnswer;
 use pkg_length::AmlError;
 ghost use mathlib.Core.Path.{_≡_};
@@ -43,12 +42,14 @@ pub fn run(block: &[u8], frame: Frame, budget: u64) -> RunAnswer
             frame,
         },
         CheckAnswer::Accepted => {
+            let width = frame.width;
             let mut set = frame.set;
             let mut val = frame.val;
-            let r = exec::term_list(block, 16, &mut set, &mut val, budget, Width::Bits64);
+            number::narrow(&mut val, width);
+            let r = exec::term_list(block, 16, &mut set, &mut val, budget, width);
             let out = r.out;
             let end = ended(out);
-            let left = Frame { set, val };
+            let left = Frame { set, val, width };
             RunAnswer {
                 began: true,
                 end,

@@ -1,19 +1,17 @@
 // What the operators work out, on numbers of 32 or 64 bits.
+use crate::frame::Width;
 use grammar::opcode::OneOp;
 use grammar::opcode::StepOp;
 use grammar::opcode::TwoOp;
 ghost use mathlib.Core.Path.{_≡_};
 ghost use mathlib.Core.Bool.{not};
+ghost use mathlib.Core.List.{map};
 ghost use Prim.Native.Nat.{_%_, _^_};
 ghost use lib.Dec.{eqb};
+ghost use lib.ListN.{length};
+ghost use Rattle.grammar.specs.Grammar.{cells};
 ghost use Rattle.statement.specs.Meaning as meaning;
-ghost use Rattle.statement.specs.Lent.{bits};
-
-// How many bits numbers have.
-pub enum Width {
-    Bits32,
-    Bits64,
-}
+ghost use Rattle.statement.specs.Frames.{bits, low};
 
 fn all_ones(w: Width) -> u64
     ensures { λ r. ⌜ r ≡ meaning.allOnes (bits w) ⌝ }
@@ -31,6 +29,18 @@ pub(crate) fn wrapped(n: u64, w: Width) -> u64
     match w {
         Width::Bits32 => n % 0x1_0000_0000,
         Width::Bits64 => n,
+    }
+}
+
+// Every number of a frame keeps its low bits.
+pub(crate) fn narrow(val: &mut [u64; 15], w: Width)
+    requires { ⌜ length (now val) ≡ cells ⌝ }
+    ensures { λ _. ⌜ now (val .exit) ≡ map (low (bits w)) (now (val .entry)) ⌝ }
+{
+    let mut i = 0;
+    while i < 15 {
+        val[i] = wrapped(val[i], w);
+        i += 1;
     }
 }
 

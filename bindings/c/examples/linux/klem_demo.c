@@ -10,7 +10,7 @@ static const u8 block[] = {0x70, 0x0A, 0x03, 0x60, 0xA4, 0x60}; /* Store(3, Loca
 
 static int __init klem_demo_init(void)
 {
-	u64 frame[KLEM_FRAME] = {0}; /* every cell unset */
+	u64 frame[KLEM_FRAME] = {[KLEM_WIDTH_AT] = KLEM_BITS64}; /* every cell unset */
 	u64 result[KLEM_RESULT];
 
 	if (klem_glue_run(block, sizeof block, frame, 1000, result) != KLEM_OK)

@@ -6,7 +6,17 @@ use std::process::ExitCode;
 
 fn told(table: &[u8]) -> Result<(), Error> {
     let header = Header::read(table)?;
-    println!("{:?} revision {}, a body of {} bytes, {} bytes after it", header.signature, header.revision, header.body.len(), table.len() - 36 - header.body.len());
+    println!(
+        "{:?} revision {}, a body of {} bytes, {} bytes after it",
+        header.signature,
+        header.revision,
+        header.body.len(),
+        table.len() - 36 - header.body.len()
+    );
+    match header.width() {
+        Some(width) => println!("numbers have {} bits, in its SSDTs too", width.bits()),
+        None => println!("numbers have as many bits as in its DSDT"),
+    }
     Ok(())
 }
 

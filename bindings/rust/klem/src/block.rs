@@ -1,8 +1,31 @@
-use crate::raw::{self, Answer, FRAME, RESULT};
+use crate::raw::{self, Answer, FRAME, RESULT, WIDTH_AT};
 use crate::Error;
 use core::fmt;
 
-/// The cells of a run: 0 to 7 are Locals, 8 to 14 Args, each unset or a number.
+/// How many bits numbers have in a run: all ones, wrapping and what a constant of eight bytes keeps follow from it.
+#[derive(Clone, Copy, PartialEq, Eq, Hash, Debug)]
+pub enum Width {
+    /// 32: the revision of the DSDT is below 2.
+    Bits32 = 32,
+    /// 64: it is 2 or more.
+    Bits64 = 64,
+}
+
+/// The cells of a run: 0 to 7 are Locals, 8 to 14 Args, each unset or a number; and the width of these numbers.
+///
+/// A cell may be set to any number. In a frame of 32 bits a larger one keeps its low 32 bits from the moment that a run begins to execute: so
+/// also where the block is empty, or the budget is spent at once; a block that is refused leaves the frame as it was.
+///
+/// ```
+/// use klem::{run, Ended, Error, Frame, Width};
+///
+/// let mut frame = Frame::new(Width::Bits32).with(0, 0x1_0000_0007)?;
+/// assert_eq!(run(&[0x60], &mut frame, 9).end, Err(Error::BadOpcode(0)));
+/// assert_eq!(frame.get(0), Ok(0x1_0000_0007));
+/// assert_eq!(run(&[], &mut frame, 9).end, Ok(Ended::Finished));
+/// assert_eq!(frame.get(0), Ok(7));
+/// # Ok::<(), Error>(())
+/// ```
 #[derive(Clone, Copy, PartialEq, Eq, Hash)]
 pub struct Frame([u64; FRAME]);
 
@@ -49,10 +72,10 @@ pub fn check(block: &[u8]) -> Result<(), Error> {
 /// [`Error::Unset`], whichever comes first in the run.
 ///
 /// ```
-/// use klem::{run, Ended, Frame};
+/// use klem::{run, Ended, Frame, Width};
 ///
 /// // Local0 := 3; while Local0, decrement it; return it
-/// let mut frame = Frame::new();
+/// let mut frame = Frame::new(Width::Bits64);
 /// let ran = run(&[0x70, 0x0A, 0x03, 0x60, 0xA2, 0x04, 0x60, 0x76, 0x60, 0xA4, 0x60], &mut frame, 100);
 /// assert_eq!((ran.end, ran.units), (Ok(Ended::Returned(0)), 10));
 /// ```
@@ -76,6 +99,41 @@ pub fn run(block: &[u8], frame: &mut Frame, budget: u64) -> Run {
     Run { end, units }
 }
 
+impl Width {
+    /// The width in a DSDT of that revision: 32 bits below 2, else 64.
+    #[inline]
+    #[must_use]
+    pub fn of_revision(revision: u8) -> Width {
+        // SAFETY: it takes any number, and no memory.
+        Width::of_bits(unsafe { raw::klem_width_of(revision) })
+    }
+
+    /// The width in an SSDT of revision `ssdt` whose DSDT has revision `dsdt`: the DSDT's.
+    #[inline]
+    #[must_use]
+    pub fn of_ssdt(dsdt: u8, ssdt: u8) -> Width {
+        // SAFETY: as above.
+        Width::of_bits(unsafe { raw::klem_width_of_ssdt(dsdt, ssdt) })
+    }
+
+    /// 32 or 64.
+    #[inline]
+    #[must_use]
+    pub const fn bits(self) -> u32 {
+        self as u32
+    }
+
+    /// The archive gives 32 or 64, and no frame holds anything else.
+    #[inline]
+    const fn of_bits(bits: u64) -> Width {
+        if bits == Width::Bits32 as u64 {
+            Width::Bits32
+        } else {
+            Width::Bits64
+        }
+    }
+}
+
 impl Frame {
     /// How many cells a frame has.
     pub const CELLS: usize = 15;
@@ -83,11 +141,20 @@ impl Frame {
     /// The cell of the first Arg; the other Args follow it. Local `n` is cell `n`.
     pub const ARG0: usize = 8;
 
-    /// A frame whose cells are all unset.
+    /// A frame of that width whose cells are all unset.
     #[inline]
     #[must_use]
-    pub const fn new() -> Frame {
-        Frame([0; FRAME])
+    pub const fn new(width: Width) -> Frame {
+        let mut words = [0; FRAME];
+        words[WIDTH_AT] = width as u64;
+        Frame(words)
+    }
+
+    /// The width that it was made with. A run keeps it.
+    #[inline]
+    #[must_use]
+    pub const fn width(&self) -> Width {
+        Width::of_bits(self.0[WIDTH_AT])
     }
 
     /// What a cell holds.
@@ -102,7 +169,7 @@ impl Frame {
         Ok(number)
     }
 
-    /// Sets a cell.
+    /// Sets a cell, to any number: [`get`](Frame::get) gives it back as it is until a run begins to execute over the frame.
     ///
     /// # Errors
     ///
@@ -131,16 +198,9 @@ impl Frame {
     }
 }
 
-impl Default for Frame {
-    /// A frame whose cells are all unset.
-    #[inline]
-    fn default() -> Frame {
-        Frame::new()
-    }
-}
-
 impl fmt::Debug for Frame {
     fn fmt(&self, f: &mut fmt::Formatter<'_>) -> fmt::Result {
-        f.debug_list().entries((0..Frame::CELLS).map(|c| self.get(c).ok())).finish()
+        let cells: [Option<u64>; Frame::CELLS] = core::array::from_fn(|c| self.get(c).ok());
+        f.debug_struct("Frame").field("width", &self.width()).field("cells", &cells).finish()
     }
 }

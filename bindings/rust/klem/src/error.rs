@@ -73,8 +73,8 @@ pub enum Error {
     /// 1003: a frame has no such cell to set; its number. It is the archive's own, and not in the table of refusals.
     BadCell(usize),
     /// Any other number. No call of this crate gives it while the archive is the one that the crate was written for: the archive's own
-    /// 1001 and 1002 are for slices of a wrong length and for a wrong level type, and the types here have neither. It is here so that
-    /// an archive that does not fit is seen, and nothing panics.
+    /// 1001, 1002 and 1004 are for slices of a wrong length, for a wrong level type and for a frame of a wrong width, and the types here
+    /// have none of them. It is here so that an archive that does not fit is seen, and nothing panics.
     NotInTable(u64),
 }
 

@@ -1,10 +1,10 @@
 use crate::raw::{self, size, HEADER, RESULT};
-use crate::Error;
+use crate::{Error, Width};
 
 /// Which of the two a whole table is.
 #[derive(Clone, Copy, PartialEq, Eq, Hash, Debug)]
 pub enum Signature {
-    /// The table that there is one of: its revision decides the width of integers, in its SSDTs too.
+    /// The table that there is one of: its revision decides the width of numbers, in its SSDTs too ([`Header::width`]).
     Dsdt = 0,
     /// One of the tables beside it.
     Ssdt = 1,
@@ -56,6 +56,27 @@ impl<'a> Header<'a> {
         // a header that was read has a body that is a part of what was given; the types do not know it
         let body = table.get(HEADER..size(end)).unwrap_or(&[]);
         Ok(Header { signature, revision: revision.to_le_bytes()[0], body })
+    }
+
+    /// The width of numbers in this DSDT and in its SSDTs, by its revision. An SSDT's header does not say it, and gives none: an SSDT
+    /// counts in the width of its DSDT, whatever its own revision is.
+    ///
+    /// ```
+    /// # use klem::{write_table, Header, Signature, Width};
+    /// # let mut table = [0; 36];
+    /// # write_table(Signature::Dsdt.letters(), 1, &[0; 26], &[], &mut table)?;
+    /// assert_eq!(Header::read(&table)?.width(), Some(Width::Bits32)); // a DSDT of revision 1
+    /// # write_table(Signature::Ssdt.letters(), 2, &[0; 26], &[], &mut table)?;
+    /// assert_eq!(Header::read(&table)?.width(), None); // an SSDT of revision 2
+    /// # Ok::<(), klem::Error>(())
+    /// ```
+    #[inline]
+    #[must_use]
+    pub fn width(&self) -> Option<Width> {
+        match self.signature {
+            Signature::Dsdt => Some(Width::of_revision(self.revision)),
+            Signature::Ssdt => None,
+        }
     }
 }
 

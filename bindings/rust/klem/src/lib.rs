@@ -8,7 +8,7 @@
 //! - whole tables: [`Header`], [`write_table`]
 //! - names and paths: [`Path`], [`name_string`]
 //! - the namespace: [`Table`], in memory that it owns or is lent
-//! - control blocks: [`check`], [`run`], [`Frame`]
+//! - control blocks: [`check`], [`run`], [`Frame`], [`Width`]
 //!
 //! # Errors
 //!
@@ -39,7 +39,7 @@ mod table;
 #[cfg(test)]
 mod tests;
 
-pub use block::{check, run, Ended, Frame, Run};
+pub use block::{check, run, Ended, Frame, Run, Width};
 pub use error::Error;
 pub use header::{write_table, Header, Signature};
 pub use path::{is_digit_char, is_lead_name_char, is_name_char, name_string, Component, Path, Text};

@@ -5,19 +5,23 @@ use core::mem::MaybeUninit;
 pub(crate) const RESULT: usize = 8;
 pub(crate) const PATH: usize = 130;
 pub(crate) const TABLE: usize = 1153;
-pub(crate) const FRAME: usize = 30;
+pub(crate) const FRAME: usize = 31;
+/// The word of a frame that holds its width.
+pub(crate) const WIDTH_AT: usize = 30;
 pub(crate) const HEADER: usize = 36;
 
 /// The last number of the table of refusals.
 pub(crate) const REFUSALS: u64 = 30;
 
-// The numbers of the archive's own. Slices of a fixed length and the type of a level make the first two impossible here, so that only
-// the tests name them.
+// The numbers of the archive's own. Slices of a fixed length, the type of a level and the width of a frame make all but the third impossible
+// here, so that only the tests name them.
 #[cfg(test)]
 pub(crate) const BAD_SLICE: u64 = 1001;
 #[cfg(test)]
 pub(crate) const BAD_TYPE: u64 = 1002;
 pub(crate) const BAD_CELL: u64 = 1003;
+#[cfg(test)]
+pub(crate) const BAD_WIDTH: u64 = 1004;
 
 // One line for each, as in klem.h, so that the two can be read side by side.
 #[rustfmt::skip]
@@ -65,8 +69,10 @@ extern "C" {
 
     pub(crate) fn klem_check(block: *const u8, block_len: usize, result: *mut u64, result_len: usize) -> u64;
     pub(crate) fn klem_run(block: *const u8, block_len: usize, frame: *mut u64, frame_len: usize, budget: u64, result: *mut u64, result_len: usize) -> u64;
+    pub(crate) fn klem_width_of(revision: u8) -> u64;
+    pub(crate) fn klem_width_of_ssdt(dsdt: u8, ssdt: u8) -> u64;
     #[cfg_attr(not(test), allow(dead_code))] // the crate has it as a constant; src/tests.rs holds the constant to this
-    pub(crate) fn klem_frame_new(frame: *mut u64, frame_len: usize, result: *mut u64, result_len: usize) -> u64;
+    pub(crate) fn klem_frame_new(frame: *mut u64, frame_len: usize, width: u64, result: *mut u64, result_len: usize) -> u64;
     pub(crate) fn klem_frame_get(frame: *const u64, frame_len: usize, cell: usize, result: *mut u64, result_len: usize) -> u64;
     pub(crate) fn klem_frame_set(frame: *mut u64, frame_len: usize, cell: usize, number: u64, result: *mut u64, result_len: usize) -> u64;
 }
@@ -115,7 +121,8 @@ impl Answer {
                 let [_, place, ..] = *unsafe { self.0.assume_init_ref() };
                 Error::numbered(number, size(place))
             }
-            // KLEM_BAD_SLICE writes nothing, KLEM_BAD_TYPE has no place, and of the words behind any other number nothing is known.
+            // KLEM_BAD_SLICE writes nothing, KLEM_BAD_TYPE has no place, no frame here has another width than the two, and of the words
+            // behind any other number nothing is known.
             other => Error::NotInTable(other),
         }
     }

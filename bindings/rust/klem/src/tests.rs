@@ -1,8 +1,8 @@
 //! What the crate takes for granted of the archive, asked of it.
 // Tests may panic; and the calls stand below each other, one to a line, with short names for what they share.
 #![allow(clippy::unwrap_used, clippy::indexing_slicing, clippy::many_single_char_names)]
-use crate::raw::{self, BAD_CELL, BAD_SLICE, BAD_TYPE, FRAME, PATH, REFUSALS, RESULT, TABLE};
-use crate::{Error, Frame, Path, Table};
+use crate::raw::{self, BAD_CELL, BAD_SLICE, BAD_TYPE, BAD_WIDTH, FRAME, PATH, REFUSALS, RESULT, TABLE, WIDTH_AT};
+use crate::{Error, Frame, Path, Table, Width};
 use std::vec::Vec;
 
 /// What a result's words hold before a call: no answer has it.
@@ -52,8 +52,11 @@ fn a_call_writes_its_whole_result_or_none_of_it() {
     let components = [0u8; 128];
     let mut out = [0u8; PATH];
     let o = out.as_mut_ptr();
-    let mut frame = *Frame::new().words();
+    let mut frame = *Frame::new(Width::Bits64).words();
     let f = frame.as_mut_ptr();
+    let mut narrow = frame;
+    narrow[WIDTH_AT] = 31;
+    let g = narrow.as_mut_ptr();
     let mut table: Vec<u64> = Table::new().into_memory().into();
     let t = table.as_mut_ptr();
     // SAFETY: every pointer comes with the length of what it points to, or with a shorter one. What a call may write is used by no other
@@ -129,11 +132,16 @@ fn a_call_writes_its_whole_result_or_none_of_it() {
         assert_eq!(number(|p, l| raw::klem_run(block.as_ptr(), 3, f, FRAME, 1, p, l)), 0);
         assert_eq!(refused(|p, l| raw::klem_run(block.as_ptr(), 2, f, FRAME, 1, p, l)), Error::UnexpectedEndOfStream(2));
         assert_eq!(refused(|p, l| raw::klem_run(block.as_ptr(), 3, f, FRAME, 0, p, l)), Error::BudgetSpent);
-        assert_eq!(number(|p, l| raw::klem_frame_new(f, FRAME, p, l)), 0);
+        assert_eq!(number(|p, l| raw::klem_frame_new(f, FRAME, 32, p, l)), 0);
         assert_eq!(number(|p, l| raw::klem_frame_set(f, FRAME, 14, 1, p, l)), 0);
         assert_eq!(refused(|p, l| raw::klem_frame_set(f, FRAME, 15, 1, p, l)), Error::BadCell(15));
         assert_eq!(number(|p, l| raw::klem_frame_get(f, FRAME, 14, p, l)), 0);
         assert_eq!(refused(|p, l| raw::klem_frame_get(f, FRAME, 15, p, l)), Error::Unset(15));
+        // a width that Width does not have, told before the block and the cell
+        assert_eq!(refused(|p, l| raw::klem_run(block.as_ptr(), 2, g, FRAME, 1, p, l)), Error::NotInTable(BAD_WIDTH));
+        assert_eq!(refused(|p, l| raw::klem_frame_new(g, FRAME, 31, p, l)), Error::NotInTable(BAD_WIDTH));
+        assert_eq!(refused(|p, l| raw::klem_frame_get(g, FRAME, 15, p, l)), Error::NotInTable(BAD_WIDTH));
+        assert_eq!(refused(|p, l| raw::klem_frame_set(g, FRAME, 15, 1, p, l)), Error::NotInTable(BAD_WIDTH));
     }
 }
 
@@ -166,20 +174,25 @@ fn a_slice_of_another_length() {
 /// The constants are what the archive writes.
 #[test]
 fn constants() {
-    let (mut out, mut frame, mut table) = ([0xA5; PATH], [BEFORE; FRAME], std::vec![BEFORE; TABLE]);
+    let (mut out, mut table) = ([0xA5; PATH], std::vec![BEFORE; TABLE]);
     // SAFETY: every pointer comes with the length of what it points to, and the result's words as they are given here.
     unsafe {
         raw::ask(|a| raw::klem_root(out.as_mut_ptr(), PATH, a, RESULT)).unwrap();
-        raw::ask(|a| raw::klem_frame_new(frame.as_mut_ptr(), FRAME, a, RESULT)).unwrap();
         raw::ask(|a| raw::klem_table_new(table.as_mut_ptr(), TABLE, a, RESULT)).unwrap();
     }
     assert_eq!(&out, Path::root().as_memory());
-    assert_eq!(&frame, Frame::new().words());
+    for width in [Width::Bits32, Width::Bits64] {
+        let mut frame = [BEFORE; FRAME];
+        // SAFETY: as above.
+        unsafe { raw::ask(|a| raw::klem_frame_new(frame.as_mut_ptr(), FRAME, u64::from(width.bits()), a, RESULT)) }.unwrap();
+        assert_eq!(&frame, Frame::new(width).words());
+        assert_eq!(Frame::new(width).width(), width);
+    }
     assert_eq!(table, Table::new().words());
 }
 
 // They can be had at compile time.
-const _: (Frame, usize, Table) = (Frame::new(), Path::root().count(), Table::new());
+const _: (Frame, Width, usize, Table) = (Frame::new(Width::Bits32), Frame::new(Width::Bits64).width(), Path::root().count(), Table::new());
 
 /// Every number of the table has its case, and the case its number.
 #[test]
@@ -190,7 +203,7 @@ fn numbers() {
         assert_ne!(error, Error::NotInTable(number));
         assert!(error.place() == 3 || error.place() == 0);
     }
-    for number in [0, REFUSALS + 1, BAD_SLICE, BAD_TYPE, BAD_CELL + 1, u64::MAX] {
+    for number in [0, REFUSALS + 1, BAD_SLICE, BAD_TYPE, BAD_WIDTH, BAD_WIDTH + 1, u64::MAX] {
         assert_eq!(Error::numbered(number, 3), Error::NotInTable(number));
         assert_eq!((Error::NotInTable(number).number(), Error::NotInTable(number).place()), (number, 0));
     }

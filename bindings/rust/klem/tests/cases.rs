@@ -1,9 +1,9 @@
 //! Document 01's worked cases, with the answers that it gives, through the archive; the twelve with a P are its proved ones.
-use klem::{write_table, Header, Signature};
 use klem::{
     check, is_digit_char, is_lead_name_char, is_name_char, name_string, pkg_length, raw_pkg_length, run, Component, Ended, Error, Found, FoundLevel,
-    Frame, Handle, LevelType, Path, PkgLength, Run, Table,
+    Frame, Handle, LevelType, Path, PkgLength, Run, Table, Width,
 };
+use klem::{write_table, Header, Signature};
 
 fn p(text: &str) -> Path {
     text.parse().unwrap_or_else(|e| panic!("{text}: {e}"))
@@ -208,7 +208,7 @@ fn ran(end: Result<Ended, Error>, units: u64) -> Run {
 
 #[test]
 fn control_blocks() {
-    let fresh = |block: &[u8], budget| run(block, &mut Frame::new(), budget);
+    let fresh = |block: &[u8], budget| run(block, &mut Frame::new(Width::Bits64), budget);
     // P, P, P, P
     assert_eq!(fresh(&[], 0), ran(Ok(Ended::Finished), 0));
     assert_eq!(fresh(&[0x70, 0x0A, 0x03, 0x60, 0xA2, 0x04, 0x60, 0x76, 0x60, 0xA4, 0x60], 100), ran(Ok(Ended::Returned(0)), 10));
@@ -228,7 +228,7 @@ fn control_blocks() {
     assert_eq!(check(&[vec![0xA4], vec![0x92; 16], vec![0x01]].concat()), Err(Error::TooDeep(17)));
 
     // an unread branch is checked; a block that is refused leaves the frame as it was
-    let with = |number| Frame::new().with(0, number).unwrap();
+    let with = |number| Frame::new(Width::Bits64).with(0, number).unwrap();
     let mut frame = with(5);
     assert_eq!(run(&[0x75, 0x60, 0xA0, 0x04, 0x00, 0x30, 0xA4, 0x00], &mut frame, 9), ran(Err(Error::BadOpcode(5)), 0));
     assert_eq!(frame, with(5));
@@ -240,7 +240,7 @@ fn control_blocks() {
 
 #[test]
 fn frames() {
-    let mut frame = Frame::new();
+    let mut frame = Frame::new(Width::Bits64);
     assert_eq!(frame.get(14), Err(Error::Unset(14)));
     assert_eq!(frame.set(14, 9), Ok(()));
     assert_eq!(frame.set(Frame::ARG0, u64::MAX), Ok(()));
@@ -253,9 +253,74 @@ fn frames() {
     assert_eq!(frame.get(14), Ok(9));
     assert_eq!(frame.get(8), Ok(u64::MAX));
     assert_eq!(frame.get(15), Err(Error::Unset(15)));
-    assert_eq!(Frame::new().with(8, u64::MAX).and_then(|f| f.with(14, 9)), Ok(frame));
+    assert_eq!(Frame::new(Width::Bits64).with(8, u64::MAX).and_then(|f| f.with(14, 9)), Ok(frame));
     // Return Arg0
     assert_eq!(run(&[0xA4, 0x68], &mut frame, 1), ran(Ok(Ended::Returned(u64::MAX)), 1));
+}
+
+/// Request R-2: old tables count in 32 bits.
+#[test]
+fn widths() {
+    let (over, large, low) = (1u64 << 32, 0xFEDC_BA98_7654_3210u64, 0x7654_3210u64);
+    let (ones32, ones64) = (u64::from(u32::MAX), u64::MAX);
+    // the DSDT's revision decides, in its SSDTs too
+    for revision in 0..=255u8 {
+        let width = if revision < 2 { Width::Bits32 } else { Width::Bits64 };
+        assert_eq!(Width::of_revision(revision), width);
+        assert!((0..=255).all(|ssdt| Width::of_ssdt(revision, ssdt) == width));
+        let mut table = [0; 36];
+        for (letters, said) in [(*b"DSDT", Some(width)), (*b"SSDT", None)] {
+            assert_eq!(write_table(letters, revision, &[0; 26], &[], &mut table), Ok(36));
+            assert_eq!(Header::read(&table).map(|h| h.width()), Ok(said));
+        }
+    }
+    assert_eq!((Width::Bits32.bits(), Width::Bits64.bits()), (32, 64));
+
+    let with = |width, number| Frame::new(width).with(0, number).unwrap();
+    // what `Return term` gives at both widths, with a number in Local0
+    for (local0, term, narrow, wide) in [
+        (0, &[0xFF][..], ones32, ones64),
+        (5, &[0x93, 0x60, 0x0A, 0x05], ones32, ones64),
+        (0, &[0x92, 0x60], ones32, ones64),
+        (ones32, &[0x75, 0x60], 0, over),
+        (ones64, &[0x75, 0x60], 0, 0),
+        (0, &[0x76, 0x60], ones32, ones64),
+        (over, &[0x76, 0x60], ones32, ones32),
+        (ones32, &[0x72, 0x60, 0x01, 0x00], 0, over),
+        (ones32, &[0x72, 0x60, 0x0A, 0x05, 0x60], 4, over + 4),
+        (0, &[0x0E, 0x10, 0x32, 0x54, 0x76, 0x98, 0xBA, 0xDC, 0xFE], low, large),
+        (0, &[0x0C, 0xFF, 0xFF, 0xFF, 0xFF], ones32, ones32),
+        (large, &[0x60], low, large),
+        (over, &[0x91, 0x60, 0x00], 0, ones64),
+        (over, &[0x93, 0x60, 0x00], ones32, 0),
+        (over, &[0x94, 0x60, 0x01], 0, ones64),
+    ] {
+        let block = [&[0xA4], term].concat();
+        for (width, number) in [(Width::Bits32, narrow), (Width::Bits64, wide)] {
+            let mut frame = with(width, local0);
+            assert_eq!(run(&block, &mut frame, 1), ran(Ok(Ended::Returned(number)), 1), "{block:x?} over {local0} at {width:?}");
+            assert_eq!(frame.width(), width);
+        }
+    }
+
+    // a larger number keeps its low 32 bits from the moment that execution begins
+    let mut frame = with(Width::Bits32, large);
+    assert_eq!(frame.get(0), Ok(large));
+    assert_eq!(run(&[0x75, 0x60, 0x30], &mut frame, 9), ran(Err(Error::BadOpcode(2)), 0));
+    assert_eq!(frame, with(Width::Bits32, large));
+    assert_eq!(run(&[], &mut frame, 0), ran(Ok(Ended::Finished), 0));
+    assert_eq!(frame, with(Width::Bits32, low));
+    frame = with(Width::Bits32, large);
+    assert_eq!(run(&[0x75, 0x60], &mut frame, 0), ran(Err(Error::BudgetSpent), 0));
+    assert_eq!(frame, with(Width::Bits32, low));
+    frame = with(Width::Bits32, large);
+    assert_eq!(run(&[0x75, 0x60, 0x75, 0x61], &mut frame, 9), ran(Err(Error::Unset(1)), 2));
+    assert_eq!(frame, with(Width::Bits32, low + 1));
+    frame = with(Width::Bits64, large);
+    assert_eq!(run(&[], &mut frame, 0), ran(Ok(Ended::Finished), 0));
+    assert_eq!(frame, with(Width::Bits64, large));
+    // two frames of other widths are not the same frame
+    assert_ne!(Frame::new(Width::Bits32), Frame::new(Width::Bits64));
 }
 
 #[test]
@@ -263,6 +328,8 @@ fn shown() {
     assert_eq!(Error::BadNameByte(3).to_string(), "refused 6 at 3 BadNameByte");
     assert_eq!(Error::BadCell(15).to_string(), "refused 1003 at 15 BadCell");
     assert_eq!(Error::NotInTable(1001).to_string(), "refused 1001 at 0 NotInTable");
+    let unset = ["None"; 14].join(", ");
+    assert_eq!(format!("{:?}", Frame::new(Width::Bits32).with(0, 7).unwrap()), format!("Frame {{ width: Bits32, cells: [Some(7), {unset}] }}"));
     // a table shows the words that are not 0
     assert_eq!(format!("{:x?}", Table::new()), "{0: 200000000000}");
 }
@@ -279,7 +346,7 @@ fn an_error_as_others_have_it() {
 /// Request R-1: each refusal of a whole table in its order, and reading what was written.
 #[test]
 fn whole_tables() {
-    let rest: [u8; 26] = core::array::from_fn(|i| i as u8);
+    let rest = *b"ABCDEFGHIJKLMNOPQRSTUVWXYZ";
     let body = [0xA4, 0x0A, 0x05];
     let mut table = [0xEE; 64];
     assert_eq!(write_table(*b"SSDT", 7, &rest, &body, &mut table), Ok(39));

@@ -1,13 +1,14 @@
 -- The check's refusal, or the meaning of what it read.
-use mathlib.Core.Path.{_≡_, ap}
-use mathlib.Core.List.{List}
+use mathlib.Core.Path.{_≡_, ap, _∙_}
+use mathlib.Core.List.{List, map}
 use Prim.Native.Nat.{ℕ, _≤_}
 use Rattle.pkg_length.specs.Refusal.{Answer}
 use Rattle.statement.specs.declared.frame.Frame.{Frame}
 use Rattle.grammar.specs.Grammar.{depthLimit}
 use Rattle.grammar.specs.Reader.{readList}
-use Rattle.statement.specs.Meaning.{width, Ended, ran}
-use Rattle.statement.specs.Lent.{ranOf}
+use Rattle.statement.specs.Frames.{bits, low, begun}
+use Rattle.statement.specs.Meaning.{Ended, Ran, ran}
+use Rattle.statement.specs.Lent.{framed, ranOf}
 use Rattle.statement.proofs.Units.{leftOf}
 use Rattle.statement.proofs.Runs.{ran-left}
 use Rattle.statement.proofs.Theorems.{run-ready, run-from-refusal, run-from-meaning}
@@ -18,15 +19,17 @@ use Rattle.statement.proofs.run.Tie as tie
 
 term-list-requires : tie.Need-term-list-requires
 term-list-requires c κs =
-    let c-args = c .before .before .before .before .before .before .before .before .args in
-    let c-check = c .before .before .before .before .before .before .check in
-    let c-enum-told = c .before .before .before .before .enum-told in
-    run-ready (c-args .block .now) (c-check .result) (c-check .ensures) (c-enum-told .given .1)
+    run-ready (c .before .before .before .before .before .before .before .before .before .before .args .block .now) (c .before .before .before .before .before .before .before .before .check .result) (c .before .before .before .before .before .before .before .before .check .ensures) (c .before .before .before .before .before .before .enum-told .given .1)
 
 -- no run makes units
-used : (s : List ℕ) (f g : Frame) (budget u : ℕ) (a : Answer Ended) → ran g u a ≡ ranOf width (readList depthLimit 0 s) f budget → u ≤ budget
+used : (w : ℕ) (s : List ℕ) (f g : Frame) (budget u : ℕ) (a : Answer Ended) → ran g u a ≡ ranOf w (readList depthLimit 0 s) f budget → u ≤ budget
 unfolding leftOf
-used s f g budget u a e = omega (arith, ran-left width (readList depthLimit 0 s) f budget, ap leftOf e)
+used w s f g budget u a e = omega (arith, ran-left w (readList depthLimit 0 s) f budget, ap leftOf e)
+
+-- execution begins with the low bits of the frame's numbers
+begins : (s : List ℕ) (f : Frame) (budget : ℕ) (v : List ℕ) (x : Ran Frame Ended) → v ≡ map (low (bits (f .width))) (f .val) →
+    x ≡ ranOf (bits (f .width)) (readList depthLimit 0 s) (framed (f .width) (f .set) v) budget → x ≡ ranOf (bits (f .width)) (readList depthLimit 0 s) (begun f) budget
+begins s f budget v x e h = h ∙ ap (λ (n : List ℕ). ranOf (bits (f .width)) (readList depthLimit 0 s) (framed (f .width) (f .set) n) budget) e
 
 returns : tie.Need-returns
 returns c =
@@ -35,15 +38,17 @@ returns c =
 
 returns-2 : tie.Need-returns-2
 returns-2 c =
-    let c-check = c .before .before .before .before .before .before .before .before .before .check in
-    let c-enum-told = c .before .before .before .before .before .before .before .enum-told in
-    let c-ended = c .before .ended in
-    let a = c .before .before .before .before .before .before .before .before .before .before .before .args in
-    run-from-meaning (a .block .now) (a .frame) (a .budget) (c-check .result) _ _ _ (c-ended .result) (c-check .ensures) (c-enum-told .given .1)
-    (c .before .before .term-list .ensures) (c-ended .ensures)
+    let a = c .before .before .before .before .before .before .before .before .before .before .before .before .before .args in
+    let k = c .before .before .before .before .before .before .before .before .before .before .before .check in
+    run-from-meaning (a .block .now) (a .frame) (a .budget) (k .result) _ _ _ (c .before .ended .result) (k .ensures) (c .before .before .before .before .before .before .before .before .before .enum-told .given .1)
+    (begins (a .block .now) (a .frame) (a .budget) _ _ (c .before .before .before .before .before .narrow .ensures) (c .before .before .term-list .ensures)) (c .before .ended .ensures)
+
+sub-t21 : tie.Need-sub-t21
+sub-t21 c =
+    let a = c .before .before .before .before .before .before .before .before .before .before .before .before .before .args in
+    omega (arith, used (bits (a .frame .width)) (a .block .now) _ _ (a .budget) _ _ (c .before .before .term-list .ensures))
 
 pub run-spec : {M : Type 1} → statement M
 run-spec =
-    tie.close (tie.spec (λ c κs. search needs) (λ c. search needs) (λ c. search needs) term-list-requires (λ c κs. search needs)
-    (λ c. let a = c .before .before .before .before .before .before .before .before .before .before .before .args in
-    omega (arith, used (a .block .now) (a .frame) _ (a .budget) _ _ (c .before .before .term-list .ensures))) returns returns-2)
+    tie.close (tie.spec (λ c κs. search needs) (λ c. search needs) (λ c. search needs) (λ c κs. search needs) term-list-requires (λ c κs. search needs)
+    sub-t21 returns returns-2)

@@ -1,7 +1,10 @@
 //! klem over the bindings: what crates/klem does with a script, here with calls of this crate, so that recorded scripts can be run
 //! through the archive. Nothing here knows what an answer should be.
+use std::fmt::Write;
+
 use klem::{
-    check, is_digit_char, is_lead_name_char, is_name_char, name_string, pkg_length, raw_pkg_length, run, write_table, Ended, Error, Frame, Handle, Header, LevelType, Path, PkgLength, Table,
+    check, is_digit_char, is_lead_name_char, is_name_char, name_string, pkg_length, raw_pkg_length, run, write_table, Ended, Error, Frame, Handle,
+    Header, LevelType, Path, PkgLength, Table, Width,
 };
 
 const MOST_LINE: usize = 200_000;
@@ -78,7 +81,10 @@ impl<M: AsRef<[u64]> + AsMut<[u64]>> Shell<M> {
             b"write-table" => written(&w),
             b"root" => shown(Ok(Path::root())),
             b"write" | b"normal" | b"parent" | b"kind" | b"resolve" => of_paths(&w),
-            b"run" => ran(&w),
+            b"run" => ran(&w, Width::Bits64),
+            b"run32" => ran(&w, Width::Bits32),
+            b"width" => Ok(format!("ok {}", Width::of_revision(byte(w[1])?).bits())),
+            b"ssdt-width" => Ok(format!("ok {}", Width::of_ssdt(byte(w[1])?, byte(w[2])?).bits())),
             b"help" => helped(w.get(1)),
             b"level" | b"remove" | b"value" | b"value-at" | b"alias" | b"set" | b"set-object" | b"poke" | b"new" => self.edits(&w),
             _ => self.looks(&w),
@@ -232,7 +238,11 @@ fn written(w: &[&[u8]]) -> Said {
     let rest = fixed::<26>(w[3], "wants 26 bytes")?;
     let mut out = vec![0; room];
     let length = write_table(letters, revision, &rest, &body, &mut out)?;
-    Ok(format!("ok {}", out[..length].iter().map(|b| format!("{b:02X}")).collect::<String>()))
+    let mut said = String::from("ok ");
+    for b in &out[..length] {
+        let _ = write!(said, "{b:02X}");
+    }
+    Ok(said)
 }
 
 fn fixed<const N: usize>(word: &[u8], wants: &'static str) -> Result<[u8; N], Stop> {
@@ -371,6 +381,10 @@ fn number(word: &[u8]) -> Result<u64, Stop> {
     text.and_then(|t| u64::from_str_radix(t, base).ok()).ok_or(Stop::Wrong("bad number"))
 }
 
+fn byte(word: &[u8]) -> Result<u8, Stop> {
+    u8::try_from(number(word)?).map_err(|_| Stop::Wrong("bad number"))
+}
+
 // A larger number than a handle has bits for was never handed out, and neither was the largest.
 fn handle(word: &[u8]) -> Result<Handle, Stop> {
     Ok(Handle(u32::try_from(number(word)?).unwrap_or(u32::MAX)))
@@ -388,11 +402,11 @@ fn hex(word: &[u8], most: usize) -> Result<Vec<u8>, Stop> {
     word.chunks_exact(2).map(|c| Ok((digit(c[0])? * 16 + digit(c[1])?) as u8)).collect()
 }
 
-// run BUDGET HEX [CELL=NUMBER ..]
-fn ran(w: &[&[u8]]) -> Said {
+// run and run32 BUDGET HEX [CELL=NUMBER ..]
+fn ran(w: &[&[u8]], width: Width) -> Said {
     let budget = number(w[1])?;
     let block = hex(w[2], MOST_BYTES)?;
-    let mut frame = Frame::new();
+    let mut frame = Frame::new(width);
     for word in &w[3..] {
         let wrong = || Stop::Wrong("bad cell");
         let at = word.iter().position(|b| *b == b'=').ok_or_else(wrong)?;

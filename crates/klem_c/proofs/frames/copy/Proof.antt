@@ -6,7 +6,7 @@ use Prim.Native.Nat.{_-_, _≤_}
 use native.Mathlib.Omega.{arith}
 use lib.ListN.{length, take, drop, length-set}
 use borrow.Author.Needs.{needs}
-use Rattle.klem_c.proofs.Copies.{copied, copied-all}
+use Rattle.statement.proofs.Copies.{copied, copied-all}
 use Rattle.klem_c.proofs.frames.copy.Statement.{statement}
 use Rattle.klem_c.proofs.frames.copy.Tie as tie
 

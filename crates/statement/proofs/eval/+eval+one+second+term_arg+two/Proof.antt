@@ -10,7 +10,8 @@ use Rattle.grammar.specs.Reader.{Read, termBy, readTerm}
 use Rattle.statement.specs.Meaning as meaning
 use Rattle.statement.specs.Meaning.{frames, Ran}
 use Rattle.grammar.specs.Said.{Accepts}
-use Rattle.statement.specs.Lent.{bits, framed, evaledBy}
+use Rattle.statement.specs.Frames.{bits}
+use Rattle.statement.specs.Lent.{framed, evaledBy}
 use Rattle.grammar.proofs.Tables.{is-cell, op-cell, op-bytes}
 use Rattle.statement.proofs.Evals as evals
 use borrow.Author.Needs.{needs}
@@ -148,7 +149,7 @@ one-returns-2 : (t : ℕ) → one-lts.Need-returns-2 (one-claims t) (one-at t) o
 one-returns-2 t c =
     let a = c .before .before .before .before .before .before .before .before .before .before .before .args in
     let z = c .before .before .before .before .before .a2 .given in
-    evals.one-stored (a .left) (a .at) (a .part .now) (a .d) (bits (a .w)) _ _ _ (c .before .before .before .before .before .before .before .eval .ensures) (c .before .before .before .before .before .before .before .before .before .before .before .pre .1 .1) (z .0 .0) (z .0 .1 .0) (z .1) _ _ (c .store .ensures) (a .op)
+    evals.one-stored (a .left) (a .at) (a .part .now) (a .d) (bits (a .w)) _ _ _ (c .before .before .before .before .before .before .before .eval .ensures) (c .before .before .before .before .before .before .before .before .before .before .before .pre .1 .1) (z .0 .0) (z .0 .1 .0) (z .1) _ _ (c .store .ensures (a .w)) (a .op)
     (c .before .before .before .unary .ensures)
 
 second-eval-requires : (t : ℕ) → second-lts.Need-eval-requires (second-claims t) (second-at t) second.Post
@@ -172,7 +173,7 @@ second-returns-2 : (t : ℕ) → second-lts.Need-returns-2 (second-claims t) (se
 second-returns-2 t c =
     let a = c .before .before .before .before .before .before .before .before .before .before .before .args in
     let z = c .before .before .before .before .before .b2 .given in
-    evals.second-stored (a .left) (a .at) (a .part .now) (a .d) (bits (a .w)) _ _ _ (c .before .before .before .before .before .before .before .eval .ensures) (c .before .before .before .before .before .before .before .before .before .before .before .pre .1 .1) (z .0 .0) (z .0 .1 .0) (z .1) _ _ (c .store .ensures)
+    evals.second-stored (a .left) (a .at) (a .part .now) (a .d) (bits (a .w)) _ _ _ (c .before .before .before .before .before .before .before .eval .ensures) (c .before .before .before .before .before .before .before .before .before .before .before .pre .1 .1) (z .0 .0) (z .0 .1 .0) (z .1) _ _ (c .store .ensures (a .w))
     (a .op) (a .n) (c .before .before .before .binary .ensures)
 
 -- an arm of the match on what the byte starts: what was read so, and what evaluating it answers
@@ -185,8 +186,8 @@ module _ (t : ℕ) (k : term-arg-lts.After-term-op (term-arg-claims t) (term-arg
 
   term-arg-arm : (o : TermOp) (x : Ran Frame (Read ℕ)) → k .term-op .result ≡ o →
       (let a = k .before .before .before .args in
-      x ≡ evaledBy (meaning.eval frames (bits (a .w))) (a .at) (termBy (readTerm (a .left - 1)) 0 (drop (a .at + 1) (a .part .now)) o) (framed (a .set .now) (a .val .now)) →
-      x ≡ evaledBy (meaning.eval frames (bits (a .w))) (a .at) (readTerm (a .left) 0 (drop (a .at) (a .part .now))) (framed (a .set .now) (a .val .now)))
+      x ≡ evaledBy (meaning.eval frames (bits (a .w))) (a .at) (termBy (readTerm (a .left - 1)) 0 (drop (a .at + 1) (a .part .now)) o) (framed (a .w) (a .set .now) (a .val .now)) →
+      x ≡ evaledBy (meaning.eval frames (bits (a .w))) (a .at) (readTerm (a .left) 0 (drop (a .at) (a .part .now))) (framed (a .w) (a .set .now) (a .val .now)))
   term-arg-arm o x q =
       let a = k .before .before .before .args in
       evals.eval-arm (a .left) (a .at) (a .part .now) (k .before .before .before .pre .1 .reads) (k .term-op .result) o (k .term-op .ensures) q (bits (a .w)) _ x

@@ -7,7 +7,7 @@ use Rattle.statement.proofs.eval.step_cell.Tie as tie
 returns : tie.Need-returns
 unfolding eval
 returns c =
-    rw (c .before .before .before .before .before .if1 .taken, c .write-cell .ensures, c .before .before .before .stepped .ensures)
+    rw (c .before .before .before .before .before .if1 .taken, c .write-cell .ensures _, c .before .before .before .stepped .ensures)
 
 returns-2 : tie.Need-returns-2
 unfolding eval

@@ -5,6 +5,7 @@ use lib.ListN.{drop, getD}
 use Rattle.grammar.specs.declared.opcode.Dest.{Dest}
 use Rattle.grammar.specs.Reader.{readDest}
 use Rattle.grammar.specs.Said.{Accepts}
+use Rattle.statement.specs.declared.frame.Width.the-variants.{Bits64}
 use Rattle.statement.specs.Lent.{framed}
 use Rattle.grammar.proofs.Tables.{is-cell}
 use Rattle.statement.proofs.Evals.{cell-inside, cell-byte, dest-cell-acc, target-inside, target-acc, store-none, store-null, store-cell, store-target}
@@ -61,7 +62,7 @@ add-t18 c =
     omega (arith, target-inside (a .at) s (subst (λ (d : Dest). Accepts (readDest d 0 (drop (a .at) s))) (c .before .before .enum-told3 .given .1) (c-pre .2)))
 
 returns : tie.Need-returns
-returns c =
+returns c w =
     let c-pre = c .before .before .before .before .before .pre in
     let c-enum-told3 = c .before .before .enum-told3 in
     let a = c .before .before .before .before .before .args in
@@ -75,7 +76,7 @@ shared-slice-read-wide-2 c =
     let a = c .before .before .before .before .before .before .before .before .args in
     let s = a .part .now in
     let tacc = subst (λ (d : Dest). Accepts (readDest d 0 (drop (a .at) s))) (c-enum-told3 .given .1) (c-pre .2) in
-    let acc = target-acc (a .at) s 0 (framed [] []) tacc (c .before .before .before .if1 .left) in
+    let acc = target-acc (a .at) s 0 (framed Bits64 [] []) tacc (c .before .before .before .if1 .left) in
     omega (arith, cell-inside 0 (a .at) s acc)
 
 sub-wide-2 : tie.Need-sub-wide-2
@@ -85,7 +86,7 @@ sub-wide-2 c =
     let a = c .before .before .before .before .before .before .before .before .args in
     let s = a .part .now in
     let tacc = subst (λ (d : Dest). Accepts (readDest d 0 (drop (a .at) s))) (c-enum-told3 .given .1) (c-pre .2) in
-    let acc = target-acc (a .at) s 0 (framed [] []) tacc (c .before .before .before .if1 .left) in
+    let acc = target-acc (a .at) s 0 (framed Bits64 [] []) tacc (c .before .before .before .if1 .left) in
     omega (arith, is-cell (getD s (a .at) 0) (cell-byte 0 (a .at) s acc))
 
 write-cell-requires-2 : tie.Need-write-cell-requires-2
@@ -95,7 +96,7 @@ write-cell-requires-2 c κs =
     let a = c .before .before .before .before .before .before .before .before .before .args in
     let s = a .part .now in
     let tacc = subst (λ (d : Dest). Accepts (readDest d 0 (drop (a .at) s))) (c-enum-told3 .given .1) (c-pre .2) in
-    let acc = target-acc (a .at) s 0 (framed [] []) tacc (c .before .before .before .before .if1 .left) in
+    let acc = target-acc (a .at) s 0 (framed Bits64 [] []) tacc (c .before .before .before .before .if1 .left) in
     omega (arith, is-cell (getD s (a .at) 0) (cell-byte 0 (a .at) s acc), c .wide2 .ensures)
 
 add-t22 : tie.Need-add-t22
@@ -106,29 +107,29 @@ add-t22 c =
     let a = c .before .before .before .before .before .before .before .before .before .before .args in
     let s = a .part .now in
     let tacc = subst (λ (d : Dest). Accepts (readDest d 0 (drop (a .at) s))) (c-enum-told3 .given .1) (c-pre .2) in
-    let acc = target-acc (a .at) s 0 (framed [] []) tacc (c-if1 .left) in
+    let acc = target-acc (a .at) s 0 (framed Bits64 [] []) tacc (c-if1 .left) in
     omega (arith, cell-inside 0 (a .at) s acc)
 
 returns-2 : tie.Need-returns-2
-returns-2 c =
+returns-2 c w =
     let a = c .before .before .before .args in let s = a .part .now in rw (c .enum-told .given .1) (store-none (a .at) s (a .n) _)
 
 returns-3 : tie.Need-returns-3
-returns-3 c =
+returns-3 c w =
     let c-pre = c .before .before .before .before .before .before .before .before .pre in
     let c-enum-told2 = c .before .before .before .before .before .enum-told2 in
     let a = c .before .before .before .before .before .before .before .before .args in
     let s = a .part .now in
-    rw (c-enum-told2 .given .1) (store-cell (a .at) s (a .n) _ _ _ (subst (λ (d : Dest). Accepts (readDest d 0 (drop (a .at) s))) (c-enum-told2 .given .1) (c-pre .2)) (c .before .wide .ensures) (c .write-cell .ensures))
+    rw (c-enum-told2 .given .1) (store-cell (a .at) s (a .n) _ _ _ (subst (λ (d : Dest). Accepts (readDest d 0 (drop (a .at) s))) (c-enum-told2 .given .1) (c-pre .2)) (c .before .wide .ensures) (c .write-cell .ensures w))
 
 returns-4 : tie.Need-returns-4
-returns-4 c =
+returns-4 c w =
     let c-pre = c .before .before .before .before .before .before .before .before .before .before .pre in
     let c-enum-told3 = c .before .before .before .before .before .before .before .enum-told3 in
     let c-if1 = c .before .before .before .before .before .if1 in
     let a = c .before .before .before .before .before .before .before .before .before .before .args in
     let s = a .part .now in
-    rw (c-enum-told3 .given .1) (store-target (a .at) s (a .n) _ (subst (λ (d : Dest). Accepts (readDest d 0 (drop (a .at) s))) (c-enum-told3 .given .1) (c-pre .2)) (c-if1 .left) _ _ (c .before .wide2 .ensures) (c .write-cell2 .ensures))
+    rw (c-enum-told3 .given .1) (store-target (a .at) s (a .n) _ (subst (λ (d : Dest). Accepts (readDest d 0 (drop (a .at) s))) (c-enum-told3 .given .1) (c-pre .2)) (c-if1 .left) _ _ (c .before .wide2 .ensures) (c .write-cell2 .ensures w))
 
 pub store-spec : {M : Type 1} → statement M
 store-spec =

@@ -10,7 +10,8 @@ use Rattle.grammar.specs.Grammar.{depthLimit}
 use Rattle.grammar.specs.Reader.{readTerm, readHead, readElse, readIf, stmtBy, readStmt, readList}
 use Rattle.statement.specs.Meaning.{Ran}
 use Rattle.grammar.specs.Said.{Accepts}
-use Rattle.statement.specs.Lent.{bits, spanned, framed, Way, ranOf, stepOf, stepDo, turnsBy}
+use Rattle.statement.specs.Frames.{bits}
+use Rattle.statement.specs.Lent.{spanned, framed, Way, ranOf, stepOf, stepDo, turnsBy}
 use Rattle.statement.proofs.Evals as evals
 use Rattle.statement.proofs.Runs as runs
 use borrow.Author.Needs.{needs}
@@ -143,11 +144,11 @@ turns-claims t = (turn-below t, turn.Post, turns-on-reads.Asked, turns-on-reads.
 
 def-else-returns : (t : ℕ) → def-else-lts.Need-returns (def-else-claims t) (def-else-at t) def-else.Post
 def-else-returns t c =
-    let a = c .before .before .args in runs.else-none (bits (a .w)) (a .left) (a .at) (a .part .now) (framed (a .set .now) (a .val .now)) (a .units) (c .if1 .taken)
+    let a = c .before .before .args in runs.else-none (bits (a .w)) (a .left) (a .at) (a .part .now) (framed (a .w) (a .set .now) (a .val .now)) (a .units) (c .if1 .taken)
 
 def-else-returns-2 : (t : ℕ) → def-else-lts.Need-returns-2 (def-else-claims t) (def-else-at t) def-else.Post
 def-else-returns-2 t c =
-    let a = c .before .before .before .before .args in runs.else-other (bits (a .w)) (a .left) (a .at) (a .part .now) (framed (a .set .now) (a .val .now)) (a .units) (c .before .before .if1 .left) (c .if2 .taken)
+    let a = c .before .before .before .before .args in runs.else-other (bits (a .w)) (a .left) (a .at) (a .part .now) (framed (a .w) (a .set .now) (a .val .now)) (a .units) (c .before .before .if1 .left) (c .if2 .taken)
 
 def-else-pkg-requires : (t : ℕ) → def-else-lts.Need-pkg-requires (def-else-claims t) (def-else-at t) def-else.Post
 def-else-pkg-requires t c κs =
@@ -285,7 +286,7 @@ def-while-returns t c =
 statement-opcode-returns : (t : ℕ) → statement-opcode-lts.Need-returns (statement-opcode-claims t) (statement-opcode-at t) statement-opcode.Post
 statement-opcode-returns t c =
     let a = c .before .before .args in
-    runs.no-unit (a .left) (a .at) (a .part .now) (c .before .before .pre .1 .inside) (c .before .before .pre .1 .reads) (bits (a .w)) (framed (a .set .now) (a .val .now)) (a .units) (c .if1 .taken)
+    runs.no-unit (a .left) (a .at) (a .part .now) (c .before .before .pre .1 .inside) (c .before .before .pre .1 .reads) (bits (a .w)) (framed (a .w) (a .set .now) (a .val .now)) (a .units) (c .if1 .taken)
 
 -- an arm of the match on what the byte starts: what was read so, and what running it answers
 module _ (t : ℕ) (k : statement-opcode-lts.After-begun-op (statement-opcode-claims t) (statement-opcode-at t) statement-opcode.Post) where
@@ -294,22 +295,22 @@ module _ (t : ℕ) (k : statement-opcode-lts.After-begun-op (statement-opcode-cl
   statement-acc o q = let a = k .before .before .before .before .args in runs.op-acc (a .left) (a .at) (a .part .now) (k .before .before .before .before .pre .1 .inside) (k .before .before .before .before .pre .1 .reads) (k .begun-op .result) o (k .begun-op .ensures) q
 
   statement-arm : (o : StmtOp) (x : Ran Frame Way) → k .begun-op .result ≡ o →
-      (let a = k .before .before .before .before .args in let f = framed (a .set .now) (a .val .now) in
+      (let a = k .before .before .before .before .args in let f = framed (a .w) (a .set .now) (a .val .now) in
       x ≡ stepDo (bits (a .w)) (a .at) (stmtBy (readList (a .left - 1)) (getD (a .part .now) (a .at) 0) 0 (drop (a .at + 1) (a .part .now)) o) f (a .units - 1) →
       x ≡ stepOf (bits (a .w)) (a .at) (readStmt (a .left) 0 (drop (a .at) (a .part .now))) f (a .units))
   statement-arm o x q h =
       let a = k .before .before .before .before .args in
       runs.run-arm (a .left) (a .at) (a .part .now) (k .before .before .before .before .pre .1 .inside) (k .before .before .before .before .pre .1 .reads) (k .begun-op .result) o (k .begun-op .ensures) q
-      (bits (a .w)) (framed (a .set .now) (a .val .now)) (a .units) x (k .before .before .if1 .left) h
+      (bits (a .w)) (framed (a .w) (a .set .now) (a .val .now)) (a .units) x (k .before .before .if1 .left) h
 
   return-acc : k .begun-op .result ≡ Return → (let a = k .before .before .before .before .args in Accepts (readTerm depthLimit 0 (drop (a .at + 1) (a .part .now))))
-  return-acc q = let a = k .before .before .before .before .args in runs.ret-acc (bits (a .w)) (a .at) _ (framed (a .set .now) (a .val .now)) 0 (statement-acc Return q)
+  return-acc q = let a = k .before .before .before .before .args in runs.ret-acc (bits (a .w)) (a .at) _ (framed (a .w) (a .set .now) (a .val .now)) 0 (statement-acc Return q)
 
   if-acc : k .begun-op .result ≡ If → (let a = k .before .before .before .before .args in Accepts (readIf (readList (a .left - 1)) 0 (drop (a .at + 1) (a .part .now))))
-  if-acc q = let a = k .before .before .before .before .args in runs.if-acc (bits (a .w)) (a .at) _ (framed (a .set .now) (a .val .now)) 0 (a .left - 1) (statement-acc If q)
+  if-acc q = let a = k .before .before .before .before .args in runs.if-acc (bits (a .w)) (a .at) _ (framed (a .w) (a .set .now) (a .val .now)) 0 (a .left - 1) (statement-acc If q)
 
   while-acc : k .begun-op .result ≡ While → (let a = k .before .before .before .before .args in Accepts (readHead (readList (a .left - 1)) 0 (drop (a .at + 1) (a .part .now))))
-  while-acc q = let a = k .before .before .before .before .args in runs.while-acc (bits (a .w)) (a .at) _ (framed (a .set .now) (a .val .now)) 0 (a .left - 1) (statement-acc While q)
+  while-acc q = let a = k .before .before .before .before .args in runs.while-acc (bits (a .w)) (a .at) _ (framed (a .w) (a .set .now) (a .val .now)) 0 (a .left - 1) (statement-acc While q)
 
 statement-opcode-begun-op-requires : (t : ℕ) → statement-opcode-lts.Need-begun-op-requires (statement-opcode-claims t) (statement-opcode-at t) statement-opcode.Post
 statement-opcode-begun-op-requires t c κs =
@@ -374,7 +375,7 @@ statement-opcode-returns-7 t c =
 abbrev term-list-Inv-loop : term-list-lts.InvT-loop
 term-list-Inv-loop part left set₀ val₀ units w at₀ u₀ set val at u =
     (at ≤ length part) × Accepts (readList left 0 (drop at part)) ×
-    (ranOf (bits w) (readList left 0 part) (framed set₀ val₀) u₀ ≡ ranOf (bits w) (readList left 0 (drop at part)) (framed set val) u)
+    (ranOf (bits w) (readList left 0 part) (framed w set₀ val₀) u₀ ≡ ranOf (bits w) (readList left 0 (drop at part)) (framed w set val) u)
 
 abbrev term-list-μ-loop : term-list-lts.MeasureT-loop
 term-list-μ-loop part left set₀ val₀ units w at₀ u₀ set val at u = length part - at
@@ -387,7 +388,7 @@ term-list-statement-opcode-requires : (t : ℕ) → term-list-lts.Need-statement
 term-list-statement-opcode-requires t c κs =
     let a = c .before .before .before .before .before .args in
     let lp = c .before .before .before .loop in
-    let acc = runs.list-stmt-acc (a .left) (lp .at) (a .part .now) (framed (lp .set) (lp .val)) (lp .u) (c .before .before .loop-test .taken) (lp .inv .1) in
+    let acc = runs.list-stmt-acc (a .left) (lp .at) (a .part .now) (framed (a .w) (lp .set) (lp .val)) (lp .u) (c .before .before .loop-test .taken) (lp .inv .1) in
     (omega (arith, c .before .before .before .before .before .pre .0), runs.stmt-ready (a .left) (lp .at) (a .part .now) (c .before .before .loop-test .taken) acc (c .before .before .before .before .before .pre .1 .0))
 
 term-list-loop-less : (t : ℕ) → term-list-lts.Need-loop-less (term-list-claims t) (term-list-at t) term-list.Post term-list-Inv-loop term-list-μ-loop
@@ -395,33 +396,33 @@ term-list-loop-less t c =
     let a = c .before .before .before .before .before .before .before .before .args in
     let lp = c .before .before .before .before .before .before .loop in
     let r = c .before .before .statement-opcode in
-    omega (arith, runs.run-more (a .left) (lp .at) (a .part .now) (framed (lp .set) (lp .val)) (lp .u) (c .before .before .before .before .before .loop-test .taken) (lp .inv .1) (bits (a .w)) _ (r .result) (r .ensures) (sym (c .before .finished .ensures) ∙ c .if1 .taken))
+    omega (arith, runs.run-more (a .left) (lp .at) (a .part .now) (framed (a .w) (lp .set) (lp .val)) (lp .u) (c .before .before .before .before .before .loop-test .taken) (lp .inv .1) (bits (a .w)) _ (r .result) (r .ensures) (sym (c .before .finished .ensures) ∙ c .if1 .taken))
 
 term-list-loop-again : (t : ℕ) → term-list-lts.Need-loop-again (term-list-claims t) (term-list-at t) term-list.Post term-list-Inv-loop term-list-μ-loop
 term-list-loop-again t c =
     let a = c .before .before .before .before .before .before .before .before .args in
     let lp = c .before .before .before .before .before .before .loop in
     let r = c .before .before .statement-opcode in
-    let m = runs.run-more (a .left) (lp .at) (a .part .now) (framed (lp .set) (lp .val)) (lp .u) (c .before .before .before .before .before .loop-test .taken) (lp .inv .1) (bits (a .w)) _ (r .result) (r .ensures) (sym (c .before .finished .ensures) ∙ c .if1 .taken) in
+    let m = runs.run-more (a .left) (lp .at) (a .part .now) (framed (a .w) (lp .set) (lp .val)) (lp .u) (c .before .before .before .before .before .loop-test .taken) (lp .inv .1) (bits (a .w)) _ (r .result) (r .ensures) (sym (c .before .finished .ensures) ∙ c .if1 .taken) in
     (m .1, m .2, lp .inv .2 ∙ m .3)
 
 term-list-returns : (t : ℕ) → term-list-lts.Need-returns (term-list-claims t) (term-list-at t) term-list.Post term-list-Inv-loop term-list-μ-loop
 term-list-returns t c =
     let a = c .before .before .before .before .before .before .before .before .args in
     let lp = c .before .before .before .before .before .before .loop in
-    runs.run-stop (a .left) (lp .at) (a .part .now) (framed (lp .set) (lp .val)) (lp .u) (c .before .before .before .before .before .loop-test .taken) (lp .inv .1) (bits (a .w)) _ (c .before .before .statement-opcode .result) (c .before .before .statement-opcode .ensures)
+    runs.run-stop (a .left) (lp .at) (a .part .now) (framed (a .w) (lp .set) (lp .val)) (lp .u) (c .before .before .before .before .before .loop-test .taken) (lp .inv .1) (bits (a .w)) _ (c .before .before .statement-opcode .result) (c .before .before .statement-opcode .ensures)
     (sym (c .before .finished .ensures) ∙ c .if1 .left) ∙ sym (lp .inv .2)
 
 term-list-returns-2 : (t : ℕ) → term-list-lts.Need-returns-2 (term-list-claims t) (term-list-at t) term-list.Post term-list-Inv-loop term-list-μ-loop
 term-list-returns-2 t c =
     let a = c .before .before .before .args in
     let lp = c .before .loop in
-    runs.run-end (bits (a .w)) (a .left) (lp .at) (a .part .now) (framed (lp .set) (lp .val)) (lp .u) (c .loop-test .left) ∙ sym (lp .inv .2)
+    runs.run-end (bits (a .w)) (a .left) (lp .at) (a .part .now) (framed (a .w) (lp .set) (lp .val)) (lp .u) (c .loop-test .left) ∙ sym (lp .inv .2)
 
 turn-returns : (t : ℕ) → turn-lts.Need-returns (turn-claims t) (turn-at t) turn.Post
 turn-returns t c =
     let a = c .before .before .args in
-    runs.turn-none (a .left) (a .end) (a .at) (a .part .now) (c .before .before .pre .1 .2) (bits (a .w)) (framed (a .set .now) (a .val .now)) (a .units) (c .if1 .taken)
+    runs.turn-none (a .left) (a .end) (a .at) (a .part .now) (c .before .before .pre .1 .2) (bits (a .w)) (framed (a .w) (a .set .now) (a .val .now)) (a .units) (c .if1 .taken)
 
 turn-eval-requires : (t : ℕ) → turn-lts.Need-eval-requires (turn-claims t) (turn-at t) turn.Post
 turn-eval-requires t c κs =
@@ -490,8 +491,8 @@ turn-returns-4 t c =
 -- the turns from here on are those from the start
 abbrev turns-Inv-loop : turns-lts.InvT-loop
 turns-Inv-loop part at end left set₀ val₀ units w u₀ set val u =
-    turnsBy left part end at (bits w) (readTerm depthLimit 0 (drop at part)) (framed set₀ val₀) u₀ ≡
-    turnsBy left part end at (bits w) (readTerm depthLimit 0 (drop at part)) (framed set val) u
+    turnsBy left part end at (bits w) (readTerm depthLimit 0 (drop at part)) (framed w set₀ val₀) u₀ ≡
+    turnsBy left part end at (bits w) (readTerm depthLimit 0 (drop at part)) (framed w set val) u
 
 abbrev turns-μ-loop : turns-lts.MeasureT-loop
 turns-μ-loop part at end left set₀ val₀ units w u₀ set val u = u
@@ -509,21 +510,21 @@ turns-loop-less t c =
     let a = c .before .before .before .before .before .before .before .args in
     let lp = c .before .before .before .before .before .loop in
     let r = c .before .before .turn in
-    omega (arith, runs.turns-again (a .left) (a .end) (a .at) (a .part .now) (c .before .before .before .before .before .before .before .pre .1 .2) (bits (a .w)) (framed (lp .set) (lp .val)) _ (lp .u) _ (r .result .out) (r .ensures) (sym (c .before .turns-on .ensures) ∙ c .if1 .taken) .0)
+    omega (arith, runs.turns-again (a .left) (a .end) (a .at) (a .part .now) (c .before .before .before .before .before .before .before .pre .1 .2) (bits (a .w)) (framed (a .w) (lp .set) (lp .val)) _ (lp .u) _ (r .result .out) (r .ensures) (sym (c .before .turns-on .ensures) ∙ c .if1 .taken) .0)
 
 turns-loop-again : (t : ℕ) → turns-lts.Need-loop-again (turns-claims t) (turns-at t) turns.Post turns-Inv-loop turns-μ-loop
 turns-loop-again t c =
     let a = c .before .before .before .before .before .before .before .args in
     let lp = c .before .before .before .before .before .loop in
     let r = c .before .before .turn in
-    lp .inv ∙ runs.turns-again (a .left) (a .end) (a .at) (a .part .now) (c .before .before .before .before .before .before .before .pre .1 .2) (bits (a .w)) (framed (lp .set) (lp .val)) _ (lp .u) _ (r .result .out) (r .ensures) (sym (c .before .turns-on .ensures) ∙ c .if1 .taken) .1
+    lp .inv ∙ runs.turns-again (a .left) (a .end) (a .at) (a .part .now) (c .before .before .before .before .before .before .before .pre .1 .2) (bits (a .w)) (framed (a .w) (lp .set) (lp .val)) _ (lp .u) _ (r .result .out) (r .ensures) (sym (c .before .turns-on .ensures) ∙ c .if1 .taken) .1
 
 turns-returns : (t : ℕ) → turns-lts.Need-returns (turns-claims t) (turns-at t) turns.Post turns-Inv-loop turns-μ-loop
 turns-returns t c =
     let a = c .before .before .before .before .before .before .before .before .args in
     let lp = c .before .before .before .before .before .before .loop in
     let r = c .before .before .before .turn in
-    runs.turns-end (a .left) (a .end) (a .at) (a .part .now) (c .before .before .before .before .before .before .before .before .pre .1 .2) (bits (a .w)) (framed (lp .set) (lp .val)) _ (lp .u) _ (r .result .out) (r .ensures) (c .while-out .result)
+    runs.turns-end (a .left) (a .end) (a .at) (a .part .now) (c .before .before .before .before .before .before .before .before .pre .1 .2) (bits (a .w)) (framed (a .w) (lp .set) (lp .val)) _ (lp .u) _ (r .result .out) (r .ensures) (c .while-out .result)
     (c .while-out .ensures) (sym (c .before .before .turns-on .ensures) ∙ c .before .if1 .left) ∙ sym (lp .inv)
 
 pub +def-else+def-if-else+def-while+statement-opcode+term-list+turn+turns-spec :

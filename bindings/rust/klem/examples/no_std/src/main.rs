@@ -7,7 +7,7 @@
 #![deny(unsafe_op_in_unsafe_fn)]
 
 use core::{arch::asm, arch::global_asm, cell::UnsafeCell, panic::PanicInfo};
-use klem::{run, Ended, Error, Frame, LevelType, Path, Table};
+use klem::{run, Ended, Error, Frame, LevelType, Path, Table, Width};
 
 /// The namespace, made at compile time: no stack is needed for its 9,224 bytes.
 struct Namespace(UnsafeCell<Table>);
@@ -28,7 +28,7 @@ fn load_and_search(table: &mut Table) -> Result<u64, Error> {
 
 /// Return (Arg0 + 1)
 fn run_block(number: u64) -> Result<Ended, Error> {
-    run(&[0xA4, 0x72, 0x68, 0x01, 0x00], &mut Frame::new().with(Frame::ARG0, number)?, 100).end
+    run(&[0xA4, 0x72, 0x68, 0x01, 0x00], &mut Frame::new(Width::of_revision(2)).with(Frame::ARG0, number)?, 100).end
 }
 
 #[no_mangle]
@@ -36,7 +36,7 @@ extern "C" fn begin() -> ! {
     // SAFETY: nothing else has the table.
     let table = unsafe { &mut *NAMESPACE.0.get() };
     let right = load_and_search(table) == Ok(7) && run_block(41) == Ok(Ended::Returned(42)) && load_and_search(table) == Err(Error::NameCollision);
-    exit(if right { 0 } else { 1 })
+    exit(i32::from(!right))
 }
 
 // The stack is aligned to 16 bytes at a call, as the archive wants it.
@@ -69,6 +69,10 @@ unsafe extern "C" fn memset(to: *mut u8, byte: i32, length: usize) -> *mut u8 {
     unsafe { asm!("rep stosb", inout("rcx") length => _, inout("rdi") to => _, in("eax") byte, options(nostack, preserves_flags)) };
     to
 }
+
+/// Nothing unwinds, and nothing calls it: the `core` of rustup's compilers names it, and rust-lld, by which they link, keeps the name.
+#[no_mangle]
+extern "C" fn rust_eh_personality() {}
 
 /// No call of klem comes here; `core` wants it all the same.
 #[panic_handler]
