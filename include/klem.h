@@ -14,7 +14,7 @@
  * Memory that holds no path is refused (26).
  *
  * Answers. A call that can refuse writes KLEM_RESULT words:
- *   result[0]   0: it gives the values; else the number of its refusal: 1 to 30 of the table of refusals, or one of the library's own
+ *   result[0]   0: it gives the values; else the number of its refusal: 1 to 31 of the table of refusals, or one of the library's own
  *   result[1]   the refusal's place, 0 where it has none
  *   result[2..] the values, as each function says; 0 for those that it does not name, and all 0 on a refusal (but see klem_run)
  * and returns result[0]. Where a slice whose length is fixed has another length, the call returns KLEM_BAD_SLICE and writes nothing,
@@ -54,7 +54,7 @@ extern "C" {
 /* The version of this interface. A new number or a new call changes MINOR; what a program must be changed for changes MAJOR, or MINOR
  * while MAJOR is 0. */
 #define KLEM_VERSION_MAJOR 0
-#define KLEM_VERSION_MINOR 4
+#define KLEM_VERSION_MINOR 5
 #define KLEM_VERSION_PATCH 0
 
 /* Lengths of slices */
@@ -111,6 +111,7 @@ extern "C" {
 #define KLEM_BAD_SIGNATURE 28
 #define KLEM_BAD_TABLE_LENGTH 29
 #define KLEM_BAD_CHECKSUM 30
+#define KLEM_PACKAGE_ENDS_EARLY 31
 
 /* The library's own, apart from the table, which may grow */
 #define KLEM_BAD_SLICE 1001 /* a slice whose length is fixed has another; nothing is written */
@@ -243,7 +244,7 @@ uint64_t klem_search_for_level(const uint64_t *table, size_t table_len, const ui
  * at once, but not where the block is refused. The words of unset cells, which no call gives, are cut then too. klem_frame_set and
  * klem_frame_get cut nothing. */
 
-/* whether the grammar derives the block. refuses: 5, and 1 to 4 from left to right */
+/* whether the grammar derives the block. refuses: 5, and 1 to 4 and 31 from left to right */
 uint64_t klem_check(const uint8_t *block, size_t block_len, uint64_t *result, size_t result_len);
 /* checks the block, then runs it, one unit for each statement begun and each evaluation of a While's predicate, at most budget.
  * values: how it ended (KLEM_FINISHED to KLEM_CONTINUE), the number returned or 0, the units used.

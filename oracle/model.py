@@ -1,6 +1,6 @@
 """Two models in Python: what documents 01 and 02 say that a call answers, and what the Rust answers where the two are known to differ.
 
-`Paper` is 01 (and R-1 and R-2 of 02) written once more, from its sentences and in another language; it uses nothing of the port, but was written with the port's definitions
+`Paper` is 01 (and R-1, R-2 and R-3 of 02) written once more, from its sentences and in another language; it uses nothing of the port, but was written with the port's definitions
 known. `Rust` follows the published source where
 docs/DIFFERENCES.md has a difference, panics included. oracle/compare.py asks both where the port and the Rust disagree: a difference is known only if
 each side's answer is the one that its model computes, and the Rust's model says which difference it met on the way.
@@ -10,7 +10,7 @@ import re
 NAMES = ["UnexpectedEndOfStream", "InvalidPkgLength", "BadOpcode", "TooDeep", "BlockTooLong", "BadNameByte", "EmptyNamesAreInvalid", "InvalidNameSeg",
          "TooManyComponents", "InvalidNormalizedName", "NotAbsolute", "RootHasNoParent", "RootNotAllowed", "TriedToRemoveRootNamespace", "LevelDoesNotExist",
          "ValueDoesNotExist", "NameCollision", "LevelsFull", "BindingsFull", "ObjectsFull", "NoSuchHandle", "BudgetSpent", "Unset", "BadTable", "OutTooSmall", "BadPath",
-         "TableTooShort", "BadSignature", "BadTableLength", "BadChecksum"]
+         "TableTooShort", "BadSignature", "BadTableLength", "BadChecksum", "PackageEndsEarly"]
 COMPONENTS, LEVELS, BINDINGS, OBJECTS, LONGEST, DEPTH = 32, 128, 512, 512, 65536, 16
 ONES = 2 ** 64 - 1
 
@@ -559,7 +559,9 @@ class Reader:
 
     def package(self, at, end):
         raw, used = raw_length(self.b[at:end], end)
-        if raw < used or at + raw > end:
+        if raw < used:
+            raise Refused(31, at)
+        if at + raw > end:
             raise Refused(2, at)
         return at + used, at + raw
 
@@ -568,7 +570,7 @@ class Reader:
         start, stop = self.package(at, end)
         t, body = self.term(start, end, 1)
         if body > stop:
-            raise Refused(2, at)
+            raise Refused(31, stop)
         return t, self.statements(body, stop, depth + 1), stop
 
     def statement(self, at, end, depth):

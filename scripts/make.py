@@ -3,13 +3,14 @@
 
   scripts/make.py            from the repository's root
 
-Six parts, in this order:
+Seven parts, in this order:
 1. document 01's cases that are not in crate `cases`, and its impostors' inputs: the answers are the paper's, written here by hand beside each line;
 2. every limit: the answers follow from the limit, by the rules in this file, not from the program;
 3. request R-1 of document 02, whole tables: the answers are those of oracle/model.py's second reading, and by hand where they are short;
 4. request R-2 of document 02, the width of a frame: the answers follow from the width, by the rules in this file;
-5. the shell's own words: its help is the list of docs/KLEM.md, and the examples of that page are true;
-6. the replay: calls on which the port and the Rust agreed (oracle/compare.py --sample), with those answers (scripts/replay.in, replay.out).
+5. request R-3 of document 02, the two bad lengths: by hand, then every package of a few leads and contents as oracle/model.py's second reading has it;
+6. the shell's own words: its help is the list of docs/KLEM.md, and the examples of that page are true;
+7. the replay: calls on which the port and the Rust agreed (oracle/compare.py --sample), with those answers (scripts/replay.in, replay.out).
 """
 import os
 import re
@@ -34,7 +35,7 @@ def note(text):
 NAMES = ["UnexpectedEndOfStream", "InvalidPkgLength", "BadOpcode", "TooDeep", "BlockTooLong", "BadNameByte", "EmptyNamesAreInvalid", "InvalidNameSeg",
          "TooManyComponents", "InvalidNormalizedName", "NotAbsolute", "RootHasNoParent", "RootNotAllowed", "TriedToRemoveRootNamespace", "LevelDoesNotExist",
          "ValueDoesNotExist", "NameCollision", "LevelsFull", "BindingsFull", "ObjectsFull", "NoSuchHandle", "BudgetSpent", "Unset", "BadTable", "OutTooSmall", "BadPath",
-         "TableTooShort", "BadSignature", "BadTableLength", "BadChecksum"]
+         "TableTooShort", "BadSignature", "BadTableLength", "BadChecksum", "PackageEndsEarly"]
 
 
 def refused(n, place=0):
@@ -92,7 +93,7 @@ def paper():
     case("components 1 5C00000050434930", refused(26))
     case("components 2 504349305C000000", refused(26))
     note("control blocks")
-    case("check A00200A100", refused(2, 4))
+    case("check A00200A100", refused(31, 4))  # 01: 2 at 4; 02, R-3: 31
     case("check 60", refused(3, 0))
     case("check A101", refused(3, 0))
     for n in (0, 1, 2, 7, 1000):
@@ -100,7 +101,7 @@ def paper():
     case("run 1 A460", ran(refused(23, 0), 1))
     case("run 0 A460", ran(refused(22), 0))
     note("a predicate is read against the enclosing part: here it ends outside its package")
-    case("check A0020A05", refused(2, 1))
+    case("check A0020A05", refused(31, 3))  # 01: 2 at 1; 02, R-3: 31 at the byte that was needed
     note("both operands are always evaluated: LAnd of 0 and an Increment")
     case("run 9 90007560 0=5", ran("finished", 1, c0=6))
     note("Add, Increment and Decrement wrap; true is all ones; comparison is unsigned")
@@ -213,6 +214,37 @@ def limits_of_budget():
     case("run 9 " + block, ran(refused(22), 9, c0=0))
     case("run 10 " + block, ran("returned 0", 10, c0=0))
     case("run 11 " + block, ran("returned 0", 10, c0=0))
+
+
+def bad_lengths():
+    note("request R-3: 2 for a length that passes its part, at its lead byte")
+    case("check A00300", refused(2, 1))
+    case("check A00200A102", refused(2, 4))
+    case("check A3A00401A20300A3", refused(2, 5))
+    note("31 for one that ends before its contents, at the first byte beyond its end that was needed")
+    case("check A00100", refused(31, 2))
+    case("check A2420001", refused(31, 3))
+    case("check A20372606100", refused(31, 4))
+    case("check A3A00601A2020A05", refused(31, 7))
+    case("check A00200A105A2020A05", refused(31, 8))
+    note("and at the lead byte, where it does not hold its own length's bytes")
+    case("check A000", refused(31, 1))
+    case("check A04000", refused(31, 1))
+    case("check A2410001", refused(31, 1))
+    case("check A00200A14000", refused(31, 4))
+    note("the predicate is read against the enclosing part first: 1 at that part's end")
+    case("check A001", refused(1, 2))
+    case("check A0020A", refused(1, 3))
+    note("the frame stays as it was")
+    case("run 9 7560A0020A05 0=5", refused(31, 5) + " units 0 cells " + cells(c0=5))
+    note("a few leads and contents, in an If, a While, a body and an else")
+    paper = model.Paper()
+    for before in ("A0", "A2", "A00200A1", "body"):
+        for length in ("00", "01", "02", "03", "04", "05", "3F", "40", "4000", "4100", "4200", "4300", "4400", "CF000000"):
+            for contents in ("", "00", "0A05", "926001", "7260610000"):
+                inner = "A2" + length + contents
+                line = "check " + ("A0%02X01%s" % (2 + len(inner) // 2, inner) if before == "body" else before + length + contents)
+                case(line, paper.answer(line))
 
 
 def whole_tables():
@@ -612,7 +644,7 @@ def damaged():
     case("digest", "ok %d" % digest(good))
 
 
-PARTS = [paper, limits_of_lengths, limits_of_components, limits_of_depth, limits_of_budget, tables, table_limits, whole_tables, widths, wrong_lines, helped]
+PARTS = [paper, limits_of_lengths, limits_of_components, limits_of_depth, limits_of_budget, tables, table_limits, whole_tables, widths, bad_lengths, wrong_lines, helped]
 
 
 def main():

@@ -230,12 +230,16 @@ static void blocks(void) {
     static const uint8_t dead[] = {0x75, 0x60, 0xA0, 0x04, 0x00, 0x30, 0xA4, 0x00};
     static const uint8_t unset[] = {0x75, 0x60, 0x75, 0x61};
     static const uint8_t breaks[] = {0xA5};
+    static const uint8_t early[] = {0xA0, 0x02, 0x0A, 0x05};
+    static const uint8_t past[] = {0xA0, 0x03, 0x00};
     static uint8_t large[KLEM_BLOCK_BYTES + 1];
     uint64_t frame[KLEM_FRAME];
     uint64_t before[KLEM_FRAME];
 
     GIVES(0, 0, 0, klem_check(loop, sizeof loop, r, KLEM_RESULT));
     REFUSES(KLEM_BAD_OPCODE, 5, klem_check(dead, sizeof dead, r, KLEM_RESULT));
+    REFUSES(KLEM_PACKAGE_ENDS_EARLY, 3, klem_check(early, sizeof early, r, KLEM_RESULT));
+    REFUSES(KLEM_INVALID_PKG_LENGTH, 1, klem_check(past, sizeof past, r, KLEM_RESULT));
     memset(large, 0xA3, sizeof large);
     GIVES(0, 0, 0, klem_check(large, KLEM_BLOCK_BYTES, r, KLEM_RESULT));
     REFUSES(KLEM_BLOCK_TOO_LONG, 0, klem_check(large, KLEM_BLOCK_BYTES + 1, r, KLEM_RESULT));

@@ -1,4 +1,5 @@
 -- The cases at document 01's twelve P marks, in its order, as one list: what the definitions that the public contracts cite say, beside what the paper says.
+-- The twelfth has 01's value in a comment, and the number and place that R-3 of document 02 gives it.
 -- An answer is shown as its numbers, so that all twelve are of one kind.
 use Prim.Native.Nat.{ℕ}
 use mathlib.Core.List.{List, [], _∷_}
@@ -119,7 +120,8 @@ cases =
     ∷ mark (run [] 0) (gives (0 ∷ 0 ∷ []))
     ∷ mark (run (0x70 ∷ 0x0A ∷ 0x03 ∷ 0x60 ∷ 0xA2 ∷ 0x04 ∷ 0x60 ∷ 0x76 ∷ 0x60 ∷ 0xA4 ∷ 0x60 ∷ []) 100) (gives (1 ∷ 0 ∷ 10 ∷ []))
     ∷ mark (run (0xA0 ∷ 0x04 ∷ 0x00 ∷ 0xA4 ∷ 0x01 ∷ 0xA1 ∷ 0x03 ∷ 0xA4 ∷ 0x00 ∷ []) 100) (gives (1 ∷ 0 ∷ 2 ∷ []))
-    ∷ mark (run (0xA0 ∷ 0x02 ∷ 0x0A ∷ 0x05 ∷ []) 100) (refuses 2 1)
+    -- 01: 2 at 1
+    ∷ mark (run (0xA0 ∷ 0x02 ∷ 0x0A ∷ 0x05 ∷ []) 100) (refuses 31 3)
     ∷ []
 
 -- all that the definitions say, and all that the paper says

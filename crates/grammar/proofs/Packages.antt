@@ -30,6 +30,11 @@ pub package-sound : (p : ℕ) (s : List ℕ) (w : Raw) → readPackage p s ≡ g
 unfolding readPackage
 package-sound p s w e = below.package-sound s w (moved-gives p (packageIn s) e)
 
+-- a predicate of k bytes that goes past its package needed the byte at the package's end: that byte is one of the k, and those before it lie within
+pub end-needed : (p : ℕ) (s : List ℕ) (w : Raw) (k : ℕ) → readPackage p s ≡ gives w → w .raw < w .used + k →
+    (w .raw - w .used < k) × (w .used + (w .raw - w .used) ≡ w .raw)
+end-needed p s w k e lt = let own = package-sound p s w e .own-in in (omega arith, omega arith)
+
 -- what is read of a package does not depend on its place
 pub package-any : (p q : ℕ) (s : List ℕ) (w : Raw) → readPackage p s ≡ gives w → readPackage q s ≡ gives w
 unfolding readPackage
@@ -61,9 +66,9 @@ module _ (s : List ℕ) (at : ℕ) (short : length s ≤ blockLimit) (v : PkgAns
     is : gives (record { length-read = l; used = u }) ≡ pkgLength (drop at s)
     is = sym (ap pkgSaid h) ∙ ev ∙ ap pkgLength (tail s at)
 
-    pub package-early : l .«raw_length» < u → refuses 2 p ≡ readPackage p (drop at s)
+    pub package-early : l .«raw_length» < u → refuses 31 p ≡ readPackage p (drop at s)
     unfolding readPackage
-    package-early lt = let q : p ≡ p + 0 = omega arith in ap (refuses 2) q ∙ ap (moved p) (below.package-early (drop at s) part-short l u is lt)
+    package-early lt = let q : p ≡ p + 0 = omega arith in ap (refuses 31) q ∙ ap (moved p) (below.package-early (drop at s) part-short l u is lt)
 
     pub package-yes : u ≤ l .«raw_length» → gives (record { raw = l .«raw_length»; used = u }) ≡ readPackage p (drop at s)
     unfolding readPackage

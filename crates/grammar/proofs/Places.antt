@@ -82,7 +82,7 @@ unfolding readHead
 head-any l p q s h k e =
     and-by (readPackage p s) _ e λ w e₁ f₁.
     then-by (readTerm depthLimit (p + w .used) (drop (w .used) s)) _ f₁ λ t i e₂ f₂.
-    let (le, f₃) = pick-ok (leb (w .used + i) (w .raw)) _ 2 p f₂ in
+    let (le, f₃) = pick-ok (leb (w .used + i) (w .raw)) _ 31 (p + w .raw) f₂ in
     then-by (readList l (p + (w .used + i)) (take (w .raw - (w .used + i)) (drop (w .used + i) s))) _ f₃ λ xs j e₄ f₄.
     rw (
       package-any p q s w e₁,

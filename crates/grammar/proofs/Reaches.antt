@@ -293,11 +293,12 @@ module _ (l b at : ℕ) (s : List ℕ) where
         rw (← ew, same-term, g)
 
     module _ (m : ℕ) (et : gives m ≡ upTo (at + u) (readTerm depthLimit (b + (at + u)) (drop (at + u) s))) where
-      pub head-short : at + n < m → refuses 2 (b + at) ≡ upTo at read-head
+      pub head-short : at + n < m → refuses 31 (b + (at + n)) ≡ upTo at read-head
       unfolding readHead
       head-short lt =
           ans-ok (at + u) (readTerm depthLimit (b + (at + u)) (drop (at + u) s)) m et λ x k g h.
-          rw (← ew, same-term, g, lt-leb (u + k) n (omega arith))
+          let q : b + (at + n) ≡ b + at + n = omega arith in
+          rw (← ew, same-term, g, lt-leb (u + k) n (omega arith), q)
 
       -- the body is the part from m to the package's end
       abbrev body : Answer (Read Stmts)

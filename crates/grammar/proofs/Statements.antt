@@ -83,7 +83,7 @@ module _ (list : ℕ → List ℕ → Answer (Read Stmts)) (l : ℕ) (hb : ListS
   head-sound p s h k e =
       and-by (readPackage p s) _ e λ w e₁ f₁.
       then-by (readTerm depthLimit (p + w .used) (drop (w .used) s)) _ f₁ λ t i e₂ f₂.
-      let (le, f₃) = pick-ok (leb (w .used + i) (w .raw)) _ 2 p f₂ in
+      let (le, f₃) = pick-ok (leb (w .used + i) (w .raw)) _ 31 (p + w .raw) f₂ in
       then-by (list (p + (w .used + i)) (take (w .raw - (w .used + i)) (drop (w .used + i) s))) _ f₃ λ xs q e₄ f₄.
       as-takes HeadBytes f₄
       (head-takes w i s t xs (package-sound p s w e₁) (leb-true _ _ le)

@@ -123,7 +123,7 @@ whileOf (head t xs) = while t xs
 
 -- `list` reads a body, one deeper
 module _ (list : ℕ → List ℕ → Answer (Read Stmts)) where
-  -- a predicate, read against the enclosing part; that it ended inside the package; then the body
+  -- a predicate, read against the enclosing part; that it ended inside the package, else it needed the byte at the package's end; then the body
   unfoldable pub readHead : ℕ → List ℕ → Answer (Read Head)
   readHead p s =
       andThen (readPackage p s) (λ w.
@@ -131,7 +131,7 @@ module _ (list : ℕ → List ℕ → Answer (Read Stmts)) where
       cond (leb (w .used + k) (w .raw))
       (thenRead (list (p + (w .used + k)) (take (w .raw - (w .used + k)) (drop (w .used + k) s))) (λ xs _.
       reads (head t xs) (w .raw)))
-      (endsEarly p)))
+      (endsEarly (p + w .raw))))
 
   abbrev pub elseBy : ℕ → List ℕ → Bool → Answer (Read Stmts)
   elseBy p s true =

@@ -3,7 +3,7 @@ use mathlib.Core.Bool.{cond}
 use Prim.Native.Nat.{ℕ, _+_}
 use lib.Dec.{eqb}
 use Rattle.pkg_length.specs.declared.AmlError.{AmlError}
-use Rattle.pkg_length.specs.declared.AmlError.the-variants.{UnexpectedEndOfStream, InvalidPkgLength, BadOpcode, TooDeep}
+use Rattle.pkg_length.specs.declared.AmlError.the-variants.{UnexpectedEndOfStream, InvalidPkgLength, BadOpcode, TooDeep, PackageEndsEarly}
 use Rattle.pkg_length.specs.Refusal.{Answer, gives, refuses, andThen, refused}
 use Rattle.pkg_length.specs.Pkg.{Raw}
 use Rattle.grammar.specs.declared.term.Reach.{Reach}
@@ -28,13 +28,18 @@ abbrev pub «INVALID_LENGTH» : ℕ
 abbrev pub «BAD_OPCODE» : ℕ
 «BAD_OPCODE» = 3
 
+abbrev pub «ENDS_EARLY» : ℕ
+«ENDS_EARLY» = 31
+
 abbrev pub refusalOf : Reach → AmlError
 refusalOf r =
     cond (eqb (r .0) «UNEXPECTED_END»)
     (UnexpectedEndOfStream (r .1))
     (cond (eqb (r .0) «INVALID_LENGTH»)
     (InvalidPkgLength (r .1))
-    (cond (eqb (r .0) «BAD_OPCODE») (BadOpcode (r .1)) (TooDeep (r .1))))
+    (cond (eqb (r .0) «BAD_OPCODE»)
+    (BadOpcode (r .1))
+    (cond (eqb (r .0) «ENDS_EARLY») (PackageEndsEarly (r .1)) (TooDeep (r .1)))))
 
 -- how far reading went, or the refusal and its place
 abbrev pub reached : Reach → Answer ℕ

@@ -2,6 +2,7 @@
 use crate::opcode;
 use crate::opcode::StmtOp;
 use crate::term::BAD_OPCODE;
+use crate::term::ENDS_EARLY;
 use crate::term::INVALID_LENGTH;
 use crate::term::NEXT;
 use crate::term::Reach;
@@ -36,7 +37,7 @@ fn pkg(part: &[u8], base: usize, at: usize) -> Package
         }
         PkgAnswer::Read(length, used) => {
             if length.raw_length < used {
-                return Package(Reach(INVALID_LENGTH, base + at), used);
+                return Package(Reach(ENDS_EARLY, base + at), used);
             }
             Package(Reach(NEXT, length.raw_length), used)
         }
@@ -77,7 +78,8 @@ fn statement_opcode(part: &[u8], base: usize, at: usize, left: usize) -> Reach
     }
 }
 
-// A package of a predicate and a body, an If's or a While's. The predicate is read against the part that holds the package.
+// A package of a predicate and a body, an If's or a While's. The predicate is read against the part that holds the package; if it goes past the
+// package's end, it needed the byte there.
 fn predicate_and_body(part: &[u8], base: usize, at: usize, left: usize) -> Reach
     requires { ⌜ (at ≤ length (now part)) × (base + length (now part) ≤ blockLimit) ⌝ }
     ensures { λ r. ⌜ reached r ≡ upTo at (readHead (readList left) (base + at) (drop at (now (part .entry)))) ⌝ }
@@ -94,7 +96,7 @@ fn predicate_and_body(part: &[u8], base: usize, at: usize, left: usize) -> Reach
     let body = t.1;
     let end = at + raw.1;
     if end < body {
-        return Reach(INVALID_LENGTH, base + at);
+        return Reach(ENDS_EARLY, base + end);
     }
     let r = term_list(&part[body..end], base + body, left);
     if r.0 != NEXT {

@@ -24,6 +24,8 @@ pub const BAD_OPCODE: usize = 3;
 
 pub const TOO_DEEP: usize = 4;
 
+pub const ENDS_EARLY: usize = 31;
+
 // The refusal of an answer that is not NEXT.
 pub(crate) fn refusal(r: Reach) -> AmlError
     ensures { λ e. ⌜ e ≡ refusalOf r ⌝ }
@@ -34,6 +36,7 @@ pub(crate) fn refusal(r: Reach) -> AmlError
         UNEXPECTED_END => AmlError::UnexpectedEndOfStream(at),
         INVALID_LENGTH => AmlError::InvalidPkgLength(at),
         BAD_OPCODE => AmlError::BadOpcode(at),
+        ENDS_EARLY => AmlError::PackageEndsEarly(at),
         _ => AmlError::TooDeep(at),
     }
 }

@@ -2,7 +2,7 @@
 // least one blank at its end. One table is lent to all: proving a call that lends a text of its own costs as much as six calls that lend none.
 use crate::words;
 
-pub const TEXT: [u8; 4520] = *b"pkg HEX                                 \
+pub const TEXT: [u8; 4560] = *b"pkg HEX                                 \
     raw HEX                                 \
     fit LENGTH RAW                          \
     still END LENGTH                        \
@@ -114,7 +114,8 @@ pub const TEXT: [u8; 4520] = *b"pkg HEX                                 \
     TableTooShort                           \
     BadSignature                            \
     BadTableLength                          \
-    BadChecksum                             ";
+    BadChecksum                             \
+    PackageEndsEarly                        ";
 
 // The commands: which row, and how many there are.
 pub const PKG: usize = 0;

@@ -187,6 +187,7 @@ paper-numbered AmlError.TableTooShort h = omega arith
 paper-numbered AmlError.BadSignature h = omega arith
 paper-numbered AmlError.BadTableLength h = omega arith
 paper-numbered AmlError.BadChecksum h = omega arith
+paper-numbered (AmlError.PackageEndsEarly p) h = omega arith
 
 pub name-numbered : (s : NameSaid) → Numbered (nameSaid s)
 name-numbered (NameSaid.Used u) = tt

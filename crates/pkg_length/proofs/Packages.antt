@@ -100,6 +100,10 @@ spelt-refuses (lead ∷ rest) n q e =
     go false true a b e = refuses-not (sym e)
     go false false a b e = (let z : 1 ≡ n = cc in sym z, let z : suc (length rest) ≡ q = cc in omega arith)
 
+-- a length that passes its part holds its own bytes, since the part holds them: the two bad lengths exclude each other
+pub not-both : (s : List ℕ) (w : Raw) → spelt s ≡ gives w → length s < w .raw → w .used ≤ w .raw
+not-both s w e h = omega (arith, spelt-sound s w e .fits)
+
 module _ (n : ℕ) (a : Raw) where
   pub unfit : n < a .raw → fromRaw n (a .raw) ≡ refuses 2 0
   unfolding fromRaw
@@ -133,8 +137,8 @@ pub package-sound : (s : List ℕ) (w : Raw) → packageIn s ≡ gives w → Pac
 unfolding packageIn fromRaw
 package-sound s w e =
     let (v, e₁, f₁) = then-gives (spelt s) _ e in
-    let (l, e₂, f₂) = then-gives (fromRaw (length s) (v .raw)) _ f₁ in
-    let (t, g) = test-gives (leb (v .used) (v .raw)) (gives v) 2 0 f₂ in
+    let (t, f₂) = test-gives (leb (v .used) (v .raw)) _ 31 0 f₁ in
+    let (l, e₂, g) = then-gives (fromRaw (length s) (v .raw)) _ f₂ in
     let (u, h) = test-gives (leb (v .raw) (length s)) _ 2 0 e₂ in
     let q : v ≡ w = cc in
     subst (Packs s) q (packs s v (spelt-sound s v e₁) (leb-true _ _ u) (leb-true _ _ t))
@@ -182,7 +186,7 @@ module _ (t : List ℕ) (short : length t ≤ blockLimit) where
           let g : refuses n q ≡ refuses 2 0 = z ∙ rw (unfit (length t) a lt) in
           let x : n ≡ 2 = cc in
           let y : q ≡ 0 = cc in
-          record { is = rw (x, y, f, unfit (length t) a lt); inside = omega arith; one-or-two = λ _. x }
+          record { is = rw (x, y, f, le-leb (a .used) (a .raw) (not-both t a f lt), unfit (length t) a lt); inside = omega arith; one-or-two = λ _. x }
 
       go : (R : Answer Raw) → spelt t ≡ R → refuses n q ≡ andThen R pkgOf → Refuses n q
       go (gives a) f h = tried a (leb (a .raw) (length t)) refl f h
@@ -210,9 +214,9 @@ module _ (t : List ℕ) (short : length t ≤ blockLimit) where
         go (gives a) f h = tried a (leb (a .raw) (length t)) refl f h
         go (refuses c m) f h = refuses-not (sym h)
 
-    pub package-early : l .«raw_length» < u → refuses 2 0 ≡ packageIn t
+    pub package-early : l .«raw_length» < u → refuses 31 0 ≡ packageIn t
     unfolding packageIn
-    package-early lt = read-as λ a f le e₁ e₂. sym (rw (f, fit (length t) a le, lt-leb (a .used) (a .raw) (omega arith)))
+    package-early lt = read-as λ a f le e₁ e₂. sym (rw (f, lt-leb (a .used) (a .raw) (omega arith)))
 
     pub package-yes : u ≤ l .«raw_length» → gives (record { raw = l .«raw_length»; used = u }) ≡ packageIn t
     unfolding packageIn

@@ -36,6 +36,7 @@ use Rattle.pkg_length.specs.declared.AmlError.the-variants.{
   BadSignature,
   BadTableLength,
   BadChecksum,
+  PackageEndsEarly,
 }
 use Rattle.pkg_length.specs.Refusal.{Answer, gives, refuses, paper, refused}
 
@@ -49,7 +50,7 @@ caseOf n p =
     (cond (eqb n 16) ValueDoesNotExist (cond (eqb n 17) NameCollision (cond (eqb n 18) LevelsFull (cond (eqb n 19) BindingsFull
     (cond (eqb n 20) ObjectsFull (cond (eqb n 21) NoSuchHandle (cond (eqb n 22) BudgetSpent (cond (eqb n 23) (Unset p) (cond (eqb n 24) BadTable
     (cond (eqb n 25) OutTooSmall (cond (eqb n 26) BadPath (cond (eqb n 27) TableTooShort (cond (eqb n 28) BadSignature
-    (cond (eqb n 29) BadTableLength BadChecksum))))))))))))))))))))))))))))
+    (cond (eqb n 29) BadTableLength (cond (eqb n 30) BadChecksum (PackageEndsEarly p))))))))))))))))))))))))))))))
 
 pub case-is : (e : AmlError) → caseOf (paper e .0) (paper e .1) ≡ e
 unfolding caseOf
@@ -83,6 +84,7 @@ case-is TableTooShort = refl
 case-is BadSignature = refl
 case-is BadTableLength = refl
 case-is BadChecksum = refl
+case-is (PackageEndsEarly p) = refl
 
 -- equal number and place, equal case
 pub paper-one : (a b : AmlError) → paper a ≡ paper b → a ≡ b

@@ -19,9 +19,10 @@ pub data Spells : ℕ → List ℕ → Type 0 where
 pub data Package : List ℕ → List ℕ → Type 0 where
   d-package : {n : ℕ} {h c : List ℕ} → Spells n h → n ≡ length h + length c → Package c (h ++ c)
 
--- a package's length at the start of a part: read, within the part, and not less than its own bytes
+-- a package's length at the start of a part: read, then its fit: its own bytes held, and the part not passed
 unfoldable pub packageIn : List ℕ → Answer Raw
 packageIn s =
     andThen (spelt s) (λ w.
-    andThen (fromRaw (length s) (w .raw)) (λ l.
-    cond (leb (w .used) (w .raw)) (gives w) (endsEarly 0)))
+    cond (leb (w .used) (w .raw))
+    (andThen (fromRaw (length s) (w .raw)) (λ l. gives w))
+    (endsEarly 0))

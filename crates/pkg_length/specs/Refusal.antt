@@ -33,6 +33,7 @@ use Rattle.pkg_length.specs.declared.AmlError.the-variants.{
   BadSignature,
   BadTableLength,
   BadChecksum,
+  PackageEndsEarly,
 }
 
 -- a call gives a value, or refuses with a number at a place
@@ -77,17 +78,19 @@ paper TableTooShort = (27, 0)
 paper BadSignature = (28, 0)
 paper BadTableLength = (29, 0)
 paper BadChecksum = (30, 0)
+paper (PackageEndsEarly p) = (31, p)
 
 -- a refusal of the code, as the paper states it
 abbrev pub refused : {A : Type 0} → AmlError → Answer A
 refused e = refuses (paper e .0) (paper e .1)
 
--- the two reasons of 2, at the length's lead byte: the package passes its part, or it ends before its contents
+-- a package that passes its part: 2, at the length's lead byte
 abbrev pub passesPart : {A : Type 0} → ℕ → Answer A
 passesPart lead = refuses 2 lead
 
+-- a package that ends before its contents: 31, at the first byte beyond its end that was needed, or, where it does not hold its own length's bytes, at the lead byte
 abbrev pub endsEarly : {A : Type 0} → ℕ → Answer A
-endsEarly lead = refuses 2 lead
+endsEarly needed = refuses 31 needed
 
 -- the longest block or part that is read; 5 above it
 abbrev pub blockLimit : ℕ

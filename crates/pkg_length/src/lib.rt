@@ -39,6 +39,7 @@ pub enum AmlError {
     BadSignature,
     BadTableLength,
     BadChecksum,
+    PackageEndsEarly(usize),
 }
 
 // A refusal as the table numbers it: the number, and the place, 0 where the table gives none.
@@ -79,6 +80,7 @@ impl AmlError {
             AmlError::BadSignature => Refusal(28, 0),
             AmlError::BadTableLength => Refusal(29, 0),
             AmlError::BadChecksum => Refusal(30, 0),
+            AmlError::PackageEndsEarly(needed) => Refusal(31, needed),
         }
     }
 }

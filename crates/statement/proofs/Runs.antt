@@ -201,9 +201,9 @@ module _ (l at : ℕ) (s : List ℕ) (acc : Accepts (readHead (readList l) 0 (dr
         let e₀ : thenRead (readTerm depthLimit (0 + w .used) (drop (w .used) (drop at s))) (λ t k.
         cond (leb (w .used + k) (w .raw))
         (thenRead (readList l (0 + (w .used + k)) (take (w .raw - (w .used + k)) (drop (w .used + k) (drop at s)))) (λ xs _. reads (head t xs) (w .raw)))
-        (refuses 2 0)) ≡ reads h m = rw (← ew) at eh in
+        (refuses 31 (0 + w .raw))) ≡ reads h m = rw (← ew) at eh in
         then-by (readTerm depthLimit (0 + w .used) (drop (w .used) (drop at s))) _ e₀ λ t k e₁ f₁.
-        let (le, f₂) = pick-ok (leb (w .used + k) (w .raw)) _ 2 0 f₁ in
+        let (le, f₂) = pick-ok (leb (w .used + k) (w .raw)) _ 31 (0 + w .raw) f₁ in
         let lt : w .used + k ≤ w .raw = leb-true _ _ le in
         then-by (readList l (0 + (w .used + k)) (take (w .raw - (w .used + k)) (drop (w .used + k) (drop at s)))) _ f₂ λ xs j e₃ f₃.
         let q₂ : w .raw - (w .used + k) ≡ at + w .raw - (at + w .used + k) = omega arith in

@@ -59,7 +59,7 @@ pub struct Run {
 /// # Errors
 ///
 /// 5 [`Error::BlockTooLong`]; then, from left to right, 1 [`Error::UnexpectedEndOfStream`], 2 [`Error::InvalidPkgLength`],
-/// 3 [`Error::BadOpcode`], 4 [`Error::TooDeep`].
+/// 3 [`Error::BadOpcode`], 4 [`Error::TooDeep`], 31 [`Error::PackageEndsEarly`].
 #[inline]
 pub fn check(block: &[u8]) -> Result<(), Error> {
     // SAFETY: one call, with the result's words as they are given here; `block` comes with its length, and is only read.

@@ -1,6 +1,6 @@
 use core::fmt;
 
-/// A refusal: the 30 of the table of refusals, under its names and in its order, each with its place where the table gives one; and the
+/// A refusal: the 31 of the table of refusals, under its names and in its order, each with its place where the table gives one; and the
 /// one number of the archive's own that a call of this crate can give.
 ///
 /// [`number`](Error::number) gives the number, [`place`](Error::place) the place, 0 where there is none. docs/REFUSALS.md
@@ -12,7 +12,7 @@ use core::fmt;
 pub enum Error {
     /// 1: a byte is wanted past the end of the part being read; where that end is.
     UnexpectedEndOfStream(usize),
-    /// 2: a package length passes its part, or ends before its contents; the offset of its lead byte.
+    /// 2: a package length passes its part; the offset of its lead byte.
     InvalidPkgLength(usize),
     /// 3: a byte starts nothing that is allowed there; its offset.
     BadOpcode(usize),
@@ -70,6 +70,9 @@ pub enum Error {
     BadTableLength,
     /// 30: the bytes of a whole table do not sum to 0 modulo 256.
     BadChecksum,
+    /// 31: a package ends before its contents; the offset of the first byte beyond its end that was needed, or of its lead byte where it is
+    /// shorter than its own length bytes.
+    PackageEndsEarly(usize),
     /// 1003: a frame has no such cell to set; its number. It is the archive's own, and not in the table of refusals.
     BadCell(usize),
     /// Any other number. No call of this crate gives it while the archive is the one that the crate was written for: the archive's own
@@ -111,6 +114,7 @@ impl Error {
             28 => Error::BadSignature,
             29 => Error::BadTableLength,
             30 => Error::BadChecksum,
+            31 => Error::PackageEndsEarly(place),
             1003 => Error::BadCell(place),
             other => Error::NotInTable(other),
         }
@@ -150,6 +154,7 @@ impl Error {
             Error::BadSignature => 28,
             Error::BadTableLength => 29,
             Error::BadChecksum => 30,
+            Error::PackageEndsEarly(_) => 31,
             Error::BadCell(_) => 1003,
             Error::NotInTable(other) => other,
         }
@@ -167,6 +172,7 @@ impl Error {
             | Error::InvalidNameSeg(place)
             | Error::LevelDoesNotExist(place)
             | Error::Unset(place)
+            | Error::PackageEndsEarly(place)
             | Error::BadCell(place) => place,
             _ => 0,
         }
@@ -206,6 +212,7 @@ impl Error {
             Error::BadSignature => "BadSignature",
             Error::BadTableLength => "BadTableLength",
             Error::BadChecksum => "BadChecksum",
+            Error::PackageEndsEarly(_) => "PackageEndsEarly",
             Error::BadCell(_) => "BadCell",
             Error::NotInTable(_) => "NotInTable",
         }

@@ -213,8 +213,9 @@ fn control_blocks() {
     assert_eq!(fresh(&[], 0), ran(Ok(Ended::Finished), 0));
     assert_eq!(fresh(&[0x70, 0x0A, 0x03, 0x60, 0xA2, 0x04, 0x60, 0x76, 0x60, 0xA4, 0x60], 100), ran(Ok(Ended::Returned(0)), 10));
     assert_eq!(fresh(&[0xA0, 0x04, 0x00, 0xA4, 0x01, 0xA1, 0x03, 0xA4, 0x00], 100), ran(Ok(Ended::Returned(0)), 2));
-    assert_eq!(check(&[0xA0, 0x02, 0x0A, 0x05]), Err(Error::InvalidPkgLength(1)));
-    assert_eq!(check(&[0xA0, 0x02, 0x00, 0xA1, 0x00]), Err(Error::InvalidPkgLength(4)));
+    assert_eq!(check(&[0xA0, 0x02, 0x0A, 0x05]), Err(Error::PackageEndsEarly(3)));
+    assert_eq!(check(&[0xA0, 0x02, 0x00, 0xA1, 0x00]), Err(Error::PackageEndsEarly(4)));
+    assert_eq!(check(&[0xA0, 0x03, 0x00]), Err(Error::InvalidPkgLength(1)));
     assert_eq!(check(&[0x60]), Err(Error::BadOpcode(0)));
     assert_eq!(check(&[0xA1, 0x01]), Err(Error::BadOpcode(0)));
     for budget in [0, 1, 2, 7, 1000] {

@@ -258,6 +258,15 @@ predicate-and-body-add-end t c =
     let w = c8 .pkg .result in
     omega (arith, reaches.package-within w (c5 .if1 .left) (a .base + a .at) (a .at) (a .part .now) (c8 .pkg .ensures) (c10 .pre .1 .0), c10 .pre .1)
 
+predicate-and-body-add-t13 : (t : ℕ) → predicate-and-body-lts.Need-add-t13 (predicate-and-body-claims t) (predicate-and-body-at t) predicate-and-body.Post
+predicate-and-body-add-t13 t c =
+    let c6 = c .before .before .before .before .before .before in
+    let c9 = c6 .before .before .before in
+    let c11 = c9 .before .before in
+    let a = c11 .args in
+    let w = c9 .pkg .result in
+    omega (arith, reaches.package-within w (c6 .if1 .left) (a .base + a .at) (a .at) (a .part .now) (c9 .pkg .ensures) (c11 .pre .1 .0), c11 .pre .1)
+
 predicate-and-body-returns-3 : (t : ℕ) → predicate-and-body-lts.Need-returns-3 (predicate-and-body-claims t) (predicate-and-body-at t) predicate-and-body.Post
 predicate-and-body-returns-3 t c =
     let a = c .before .before .before .before .before .before .before .before .before .before .before .args in
@@ -432,7 +441,7 @@ pub +def-else+def-if-else+predicate-and-body+statement-opcode+term-list-spec :
     (def-if-else-def-else-requires t) (def-if-else-returns-2 t))
     (λ t. predicate-and-body-lts.spec (predicate-and-body-claims t) (predicate-and-body-at t) predicate-and-body.Post (λ c κs. search needs)
     (predicate-and-body-returns t) (predicate-and-body-add-term-arg t) (predicate-and-body-term-arg-requires t) (predicate-and-body-returns-2 t)
-    (predicate-and-body-add-end t) (λ c. search needs) (predicate-and-body-returns-3 t) (predicate-and-body-part-term-list-start t)
+    (predicate-and-body-add-end t) (predicate-and-body-add-t13 t) (predicate-and-body-returns-3 t) (predicate-and-body-part-term-list-start t)
     (predicate-and-body-part-term-list-end t) (predicate-and-body-add-term-list t) (predicate-and-body-term-list-requires t) (predicate-and-body-returns-4 t)
     (predicate-and-body-returns-5 t))
     (λ t. statement-opcode-lts.spec (statement-opcode-claims t) (statement-opcode-at t) statement-opcode.Post (λ c. search needs) (statement-opcode-returns t)
