@@ -34,15 +34,21 @@ def constant(r):
     return r.choice([[0x00], [0x01], [0xFF], edge, [op] + [r.choice([0, 1, 255, r.randrange(256)]) for _ in range(n)]])
 
 
+# two operands and a target
+TWO = (0x72, 0x74, 0x7B, 0x7D, 0x7F)
+
+
 def pure(r, deep):
     """a term that writes nothing: its cells may stand anywhere"""
     k = r.random()
     if deep <= 0 or k < .3:
         return constant(r) if k < .15 or deep <= 0 and k < .5 else [r.choice(CELLS)]
-    op = r.choice([0x72, 0x7B, 0x90, 0x91, 0x92, 0x93, 0x94, 0x95])
+    op = r.choice([0x72, 0x74, 0x7B, 0x7D, 0x7F, 0x80, 0x81, 0x82, 0x90, 0x91, 0x92, 0x93, 0x94, 0x95])
+    if op in (0x80, 0x81, 0x82):
+        return [op] + pure(r, deep - 1) + [0x00]
     if op == 0x92:
         return [op] + pure(r, deep - 1)
-    return [op] + pure(r, deep - 1) + pure(r, deep - 1) + ([0x00] if op in (0x72, 0x7B) else [])
+    return [op] + pure(r, deep - 1) + pure(r, deep - 1) + ([0x00] if op in TWO else [])
 
 
 def statement(r, deep, looped):
@@ -51,7 +57,8 @@ def statement(r, deep, looped):
     if k < .2:
         return [0x70] + pure(r, 2) + cell
     if k < .35:
-        return [r.choice([0x72, 0x7B])] + pure(r, 2) + pure(r, 2) + r.choice([[0x00], cell])
+        op = r.choice(TWO + (0x80, 0x81, 0x82))
+        return [op] + pure(r, 2) + (pure(r, 2) if op in TWO else []) + r.choice([[0x00], cell])
     if k < .45:
         return [r.choice([0x75, 0x76])] + cell
     if k < .5:

@@ -1,6 +1,6 @@
 """Two models in Python: what documents 01 and 02 say that a call answers, and what the Rust answers where the two are known to differ.
 
-`Paper` is 01 (and R-1, R-2 and R-3 of 02) written once more, from its sentences and in another language; it uses nothing of the port, but was written with the port's definitions
+`Paper` is 01 (and R-1, R-2, R-3 and R-7 of 02) written once more, from its sentences and in another language; it uses nothing of the port, but was written with the port's definitions
 known. `Rust` follows the published source where
 docs/DIFFERENCES.md has a difference, panics included. oracle/compare.py asks both where the port and the Rust disagree: a difference is known only if
 each side's answer is the one that its model computes, and the Rust's model says which difference it met on the way.
@@ -537,7 +537,9 @@ class Rust:
 
 # ---- control blocks: read to a tree, then run. A term is (opcode, operands, written cell or None, bytes)
 
-EXPRESSIONS = {0x70: 1, 0x72: 2, 0x7B: 2, 0x75: 0, 0x76: 0, 0x90: 2, 0x91: 2, 0x92: 1, 0x93: 2, 0x94: 2, 0x95: 2}
+EXPRESSIONS = {0x70: 1, 0x72: 2, 0x74: 2, 0x7B: 2, 0x7D: 2, 0x7F: 2, 0x75: 0, 0x76: 0, 0x80: 1, 0x81: 1, 0x82: 1, 0x90: 2, 0x91: 2, 0x92: 1, 0x93: 2, 0x94: 2, 0x95: 2}
+ARITHMETIC = (0x74, 0x7D, 0x7F, 0x80, 0x81, 0x82)  # R-7's, which the Rust has not
+TARGETS = (0x72, 0x7B) + ARITHMETIC
 WIDTHS = {0x0A: 1, 0x0B: 2, 0x0C: 4, 0x0E: 8}
 
 
@@ -620,9 +622,9 @@ class Reader:
         for _ in range(EXPRESSIONS[b]):
             t, at = self.term(at, end, depth + 1)
             ts.append(t)
-        if b in (0x70, 0x72, 0x7B, 0x75, 0x76):
+        if b in (0x70, 0x75, 0x76) + TARGETS:
             c = self.byte(at, end)
-            if not 0x60 <= c <= 0x6E and not (c == 0 and b in (0x72, 0x7B)):
+            if not 0x60 <= c <= 0x6E and not (c == 0 and b in TARGETS):
                 raise Refused(3, at)
             cell, at = (c - 0x60 if c else None), at + 1
         return (b, ts, cell, self.b[start:at]), at
@@ -731,6 +733,9 @@ class Run:
         if op == 0x92 and self.met is not None and ts[0][0] not in (0x93, 0x94, 0x95):
             self.met.add("lnot-alone")
             raise RustError("UnexpectedByte(146)")
+        if op in ARITHMETIC and self.met is not None:
+            self.met.add("arithmetic")
+            raise RustError("UnexpectedByte(%d)" % op)
         if op in (0x75, 0x76):
             n = self.read(cell) + (1 if op == 0x75 else -1)
         else:
@@ -743,7 +748,8 @@ class Run:
 
 
 TRUTH = lambda b: -1 if b else 0
-VALUES = {0x70: lambda a: a, 0x72: lambda a, b: a + b, 0x7B: lambda a, b: a & b, 0x90: lambda a, b: TRUTH(a and b), 0x91: lambda a, b: TRUTH(a or b),
+VALUES = {0x70: lambda a: a, 0x72: lambda a, b: a + b, 0x74: lambda a, b: a - b, 0x7B: lambda a, b: a & b, 0x7D: lambda a, b: a | b, 0x7F: lambda a, b: a ^ b,
+          0x80: lambda a: ~a, 0x81: int.bit_length, 0x82: lambda a: (a & -a).bit_length(), 0x90: lambda a, b: TRUTH(a and b), 0x91: lambda a, b: TRUTH(a or b),
           0x92: lambda a: TRUTH(not a), 0x93: lambda a, b: TRUTH(a == b), 0x94: lambda a, b: TRUTH(a > b), 0x95: lambda a, b: TRUTH(a < b)}
 
 

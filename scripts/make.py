@@ -3,14 +3,15 @@
 
   scripts/make.py            from the repository's root
 
-Seven parts, in this order:
+Eight parts, in this order:
 1. document 01's cases that are not in crate `cases`, and its impostors' inputs: the answers are the paper's, written here by hand beside each line;
 2. every limit: the answers follow from the limit, by the rules in this file, not from the program;
 3. request R-1 of document 02, whole tables: the answers are those of oracle/model.py's second reading, and by hand where they are short;
 4. request R-2 of document 02, the width of a frame: the answers follow from the width, by the rules in this file;
 5. request R-3 of document 02, the two bad lengths: by hand, then every package of a few leads and contents as oracle/model.py's second reading has it;
-6. the shell's own words: its help is the list of docs/KLEM.md, and the examples of that page are true;
-7. the replay: calls on which the port and the Rust agreed (oracle/compare.py --sample), with those answers (scripts/replay.in, replay.out).
+6. request R-7 of document 02, six operators more, at both widths: the answers are worked out in this file;
+7. the shell's own words: its help is the list of docs/KLEM.md, and the examples of that page are true;
+8. the replay: calls on which the port and the Rust agreed (oracle/compare.py --sample), with those answers (scripts/replay.in, replay.out).
 """
 import os
 import re
@@ -363,6 +364,41 @@ def frames_of(bits, run):
     case("%s 99 A204607560A460 0=%d" % (run, 2**64 - 1), ran("returned 0", 5, c0=0))
 
 
+def arithmetic():
+    note("request R-7: 74 Subtract, 7D Or, 7F XOr, 80 Not, 81 FindSetLeftBit, 82 FindSetRightBit, placed as ACPI writes them")
+    for block, number, place in (("74", 1, 1), ("7401", 1, 2), ("740101", 1, 3), ("74010170", 3, 3), ("7D0101", 1, 3), ("7F010101", 3, 3), ("80", 1, 1), ("8001", 1, 2), ("800101", 3, 2),
+                                 ("81016F", 3, 2), ("8201FF", 3, 2), ("73010100", 3, 0), ("7E010100", 3, 0), ("830100", 3, 0)):
+        case("check %s" % block, refused(number, place))
+    for op in ("80", "81", "82"):
+        case("check A4%s01%s" % (op * 15, "00" * 15), "ok")
+        case("check A4%s01%s" % (op * 16, "00" * 16), refused(4, 17))
+    for op in ("74", "7D", "7F"):
+        case("check A4%s01%s" % (op * 15, "0100" * 15), "ok")
+        case("check A4%s01%s" % (op * 16, "0100" * 16), refused(4, 17))
+    for bits, run in ((32, "run32"), (64, "run")):
+        worked_out(bits, run)
+
+
+def worked_out(bits, run):
+    low = lambda n: n % 2**bits
+    highest = lambda n: next((k + 1 for k in reversed(range(bits)) if n >> k & 1), 0)
+    lowest = lambda n: next((k + 1 for k in range(bits) if n >> k & 1), 0)
+    note("%d bits: Not, FindSetLeftBit, FindSetRightBit: the complement within the width, and one-based positions; 0 for zero" % bits)
+    for n in EDGES + tuple(2**k for k in range(0, 64, 7)):
+        for op, number in (("80", low(~n)), ("81", highest(n)), ("82", lowest(n))):
+            case("%s 1 A4%s6000 0=%d" % (run, op, n), ran("returned %d" % number, 1, c0=low(n)))
+            case("%s 1 %s6061 0=%d" % (run, op, n), ran("finished", 1, c0=low(n), c1=number))
+    note("%d bits: Subtract wraps, the first operand less the second; Or and XOr" % bits)
+    for n in EDGES:
+        for m in EDGES:
+            for op, number in (("74", low(n - m)), ("7D", low(n | m)), ("7F", low(n ^ m))):
+                case("%s 9 %s686E67 8=%d 14=%d" % (run, op, n, m), ran("finished", 1, c7=number, c8=low(n), c14=low(m)))
+    note("%d bits: both operands always, left to right, and then the target" % bits)
+    case("%s 9 747560756061 0=5" % run, ran("finished", 1, c0=7, c1=low(-1)))
+    case("%s 9 7D6160%s 0=1" % (run, "62"), ran(refused(23, 1), 1, c0=1))
+    case("%s 9 7F607561%s 0=1" % (run, "62"), ran(refused(23, 1), 1, c0=1))
+
+
 def wrong_lines():
     note("lines that are no command")
 
@@ -644,7 +680,7 @@ def damaged():
     case("digest", "ok %d" % digest(good))
 
 
-PARTS = [paper, limits_of_lengths, limits_of_components, limits_of_depth, limits_of_budget, tables, table_limits, whole_tables, widths, bad_lengths, wrong_lines, helped]
+PARTS = [paper, limits_of_lengths, limits_of_components, limits_of_depth, limits_of_budget, tables, table_limits, whole_tables, widths, bad_lengths, arithmetic, wrong_lines, helped]
 
 
 def main():

@@ -153,6 +153,22 @@ pub fn turns(n: u32) -> Vec<u8> {
     block
 }
 
+/// A loop of `n` turns whose body has the six operators that request R-7 adds, or, for the Rust, which has none of them, Add and And in their stead.
+pub fn six_operators(n: u32, added: bool) -> Vec<u8> {
+    let operators: [&[u8]; 6] = if added {
+        [&[0x74, 0x60, 0x01, 0x61], &[0x7D, 0x60, 0x61, 0x62], &[0x7F, 0x61, 0x62, 0x63], &[0x80, 0x63, 0x64], &[0x81, 0x64, 0x65], &[0x82, 0x64, 0x66]]
+    } else {
+        [&[0x72, 0x60, 0x01, 0x61], &[0x7B, 0x60, 0x61, 0x62], &[0x7B, 0x61, 0x62, 0x63], &[0x72, 0x63, 0x00, 0x64], &[0x72, 0x64, 0x00, 0x65], &[0x72, 0x64, 0x00, 0x66]]
+    };
+    let body: Vec<u8> = [0x60, 0x76, 0x60].into_iter().chain(operators.concat()).collect();
+    let mut block = vec![0x70, 0x0C];
+    block.extend(n.to_le_bytes());
+    block.extend([0x60, 0xA2, body.len() as u8 + 1]);
+    block.extend(body);
+    block.extend([0xA4, 0x60]);
+    block
+}
+
 /// Short blocks, as a method's body is.
 pub fn short_blocks() -> Vec<Vec<u8>> {
     let blocks: [&[u8]; 8] = [

@@ -73,6 +73,7 @@ pub fn rows() -> Vec<Row> {
     // the Rust has no 32 bits: it runs the same loop in 64, and comes to the same
     let narrow = run_at(Width::Bits32, "run the same loop at 32 bits (the Rust has 64 alone)", vec![inputs::turns(100_000)], 1);
     rows.push(Row { apart: true, ..narrow });
+    rows.push(six_operators());
     rows.push(run("run short blocks (1 to 16 bytes)", inputs::short_blocks(), 2_400));
     rows.push(refused("run short blocks that both refuse (1 to 16 bytes)", inputs::short_faults(), 2_400));
     rows.push(refused("run a block of 64 KiB that both refuse at its end", vec![inputs::late_fault(65_536)], 1));
@@ -439,6 +440,16 @@ fn port_runs(width: Width) -> impl FnMut(&Vec<u8>) {
 
 fn run(title: &str, blocks: Vec<Vec<u8>>, calls: usize) -> Row {
     run_at(Width::Bits64, title, blocks, calls)
+}
+
+// The Rust has none of the six: its loop has Add and And where the port's has them.
+fn six_operators() -> Row {
+    let block = |added| vec![inputs::six_operators(10_000, added)];
+    let title = "run a loop of 10,000 turns with R-7's six operators (the Rust: Add and And)";
+    let row = reading(title, 1, block(true), block(false), port_runs(Width::Bits64), rust_runs(), || {
+        same_run(Width::Bits64, &[inputs::six_operators(10, false)])
+    });
+    Row { apart: true, ..row }
 }
 
 fn run_at(width: Width, title: &str, blocks: Vec<Vec<u8>>, calls: usize) -> Row {

@@ -13,9 +13,9 @@ use Rattle.grammar.specs.declared.opcode.Plain.the-variants.{Break, Cont
 use Rattle.grammar.specs.declared.opcode.StepOp.{StepOp}
 use Rattle.grammar.specs.declared.opcode.StepOp.the-variants.{Increment, Decrement}
 use Rattle.grammar.specs.declared.opcode.OneOp.{OneOp}
-use Rattle.grammar.specs.declared.opcode.OneOp.the-variants.{Store, LNot}
+use Rattle.grammar.specs.declared.opcode.OneOp.the-variants.{Store, Not, FindSetLeftBit, FindSetRightBit, LNot}
 use Rattle.grammar.specs.declared.opcode.TwoOp.{TwoOp}
-use Rattle.grammar.specs.declared.opcode.TwoOp.the-variants.{Add, And, LAnd, LOr, LEqual, LGreater, LLess}
+use Rattle.grammar.specs.declared.opcode.TwoOp.the-variants.{Add, Subtract, And, Or, XOr, LAnd, LOr, LEqual, LGreater, LLess}
 use Rattle.grammar.specs.declared.opcode.Dest.{Dest}
 use Rattle.grammar.specs.declared.opcode.Dest.the-variants.{Nowhere, ToCell, ToTarget}
 use Rattle.grammar.specs.declared.opcode.TermOp.the-variants.{Bytes, Step, One, Two}
@@ -75,11 +75,17 @@ stepByte Decrement = 0x76
 
 unfoldable pub oneByte : OneOp → ℕ
 oneByte Store = 0x70
+oneByte Not = 0x80
+oneByte FindSetLeftBit = 0x81
+oneByte FindSetRightBit = 0x82
 oneByte LNot = 0x92
 
 unfoldable pub twoByte : TwoOp → ℕ
 twoByte Add = 0x72
 twoByte And = 0x7B
+twoByte Subtract = 0x74
+twoByte Or = 0x7D
+twoByte XOr = 0x7F
 twoByte LAnd = 0x90
 twoByte LOr = 0x91
 twoByte LEqual = 0x93
@@ -89,11 +95,17 @@ twoByte LLess = 0x95
 -- where the operator's result may go
 unfoldable pub oneDest : OneOp → Dest
 oneDest Store = ToCell
+oneDest Not = ToTarget
+oneDest FindSetLeftBit = ToTarget
+oneDest FindSetRightBit = ToTarget
 oneDest LNot = Nowhere
 
 unfoldable pub twoDest : TwoOp → Dest
 twoDest Add = ToTarget
 twoDest And = ToTarget
+twoDest Subtract = ToTarget
+twoDest Or = ToTarget
+twoDest XOr = ToTarget
 twoDest LAnd = Nowhere
 twoDest LOr = Nowhere
 twoDest LEqual = Nowhere
@@ -108,12 +120,18 @@ step-op Decrement = (refl, refl)
 one-op : (o : OneOp) → (termOp (oneByte o) ≡ One o (oneDest o)) × (stmtOp (oneByte o) ≡ Expr)
 unfolding oneByte oneDest termOp stmtOp look
 one-op Store = (refl, refl)
+one-op Not = (refl, refl)
+one-op FindSetLeftBit = (refl, refl)
+one-op FindSetRightBit = (refl, refl)
 one-op LNot = (refl, refl)
 
 two-op : (o : TwoOp) → (termOp (twoByte o) ≡ Two o (twoDest o)) × (stmtOp (twoByte o) ≡ Expr)
 unfolding twoByte twoDest termOp stmtOp look
 two-op Add = (refl, refl)
 two-op And = (refl, refl)
+two-op Subtract = (refl, refl)
+two-op Or = (refl, refl)
+two-op XOr = (refl, refl)
 two-op LAnd = (refl, refl)
 two-op LOr = (refl, refl)
 two-op LEqual = (refl, refl)

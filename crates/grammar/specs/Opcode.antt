@@ -6,8 +6,8 @@ use mathlib.Core.List.{List, [], _∷_}
 use lib.Dec.{leb, eqb}
 use Rattle.grammar.specs.declared.opcode.Plain.the-variants.{Break, Continue, BreakPoint, Noop}
 use Rattle.grammar.specs.declared.opcode.StepOp.the-variants.{Increment, Decrement}
-use Rattle.grammar.specs.declared.opcode.OneOp.the-variants.{Store, LNot}
-use Rattle.grammar.specs.declared.opcode.TwoOp.the-variants.{Add, And, LAnd, LOr, LEqual, LGreater, LLess}
+use Rattle.grammar.specs.declared.opcode.OneOp.the-variants.{Store, Not, FindSetLeftBit, FindSetRightBit, LNot}
+use Rattle.grammar.specs.declared.opcode.TwoOp.the-variants.{Add, Subtract, And, Or, XOr, LAnd, LOr, LEqual, LGreater, LLess}
 use Rattle.grammar.specs.declared.opcode.Dest.the-variants.{Nowhere, ToCell, ToTarget}
 use Rattle.grammar.specs.declared.opcode.TermOp.{TermOp}
 use Rattle.grammar.specs.declared.opcode.TermOp.the-variants.{Constant, Bytes, Cell, Step, One, Two, BadTerm}
@@ -79,6 +79,24 @@ abbrev pub «DEF_DECREMENT_OP» : ℕ
 abbrev pub «DEF_AND_OP» : ℕ
 «DEF_AND_OP» = 0x7B
 
+abbrev pub «DEF_NOT_OP» : ℕ
+«DEF_NOT_OP» = 0x80
+
+abbrev pub «DEF_FIND_SET_LEFT_BIT_OP» : ℕ
+«DEF_FIND_SET_LEFT_BIT_OP» = 0x81
+
+abbrev pub «DEF_FIND_SET_RIGHT_BIT_OP» : ℕ
+«DEF_FIND_SET_RIGHT_BIT_OP» = 0x82
+
+abbrev pub «DEF_SUBTRACT_OP» : ℕ
+«DEF_SUBTRACT_OP» = 0x74
+
+abbrev pub «DEF_OR_OP» : ℕ
+«DEF_OR_OP» = 0x7D
+
+abbrev pub «DEF_X_OR_OP» : ℕ
+«DEF_X_OR_OP» = 0x7F
+
 abbrev pub «DEF_L_AND_OP» : ℕ
 «DEF_L_AND_OP» = 0x90
 
@@ -129,9 +147,15 @@ termRows =
     ∷ row «DEF_INCREMENT_OP» (Step Increment)
     ∷ row «DEF_DECREMENT_OP» (Step Decrement)
     ∷ row «DEF_STORE_OP» (One Store ToCell)
+    ∷ row «DEF_NOT_OP» (One Not ToTarget)
+    ∷ row «DEF_FIND_SET_LEFT_BIT_OP» (One FindSetLeftBit ToTarget)
+    ∷ row «DEF_FIND_SET_RIGHT_BIT_OP» (One FindSetRightBit ToTarget)
     ∷ row «DEF_L_NOT_OP» (One LNot Nowhere)
     ∷ row «DEF_ADD_OP» (Two Add ToTarget)
+    ∷ row «DEF_SUBTRACT_OP» (Two Subtract ToTarget)
     ∷ row «DEF_AND_OP» (Two And ToTarget)
+    ∷ row «DEF_OR_OP» (Two Or ToTarget)
+    ∷ row «DEF_X_OR_OP» (Two XOr ToTarget)
     ∷ row «DEF_L_AND_OP» (Two LAnd Nowhere)
     ∷ row «DEF_L_OR_OP» (Two LOr Nowhere)
     ∷ row «DEF_L_EQUAL_OP» (Two LEqual Nowhere)

@@ -40,11 +40,23 @@ pub const DEF_STORE_OP: u8 = 0x70;
 
 pub const DEF_ADD_OP: u8 = 0x72;
 
+pub const DEF_SUBTRACT_OP: u8 = 0x74;
+
 pub const DEF_INCREMENT_OP: u8 = 0x75;
 
 pub const DEF_DECREMENT_OP: u8 = 0x76;
 
 pub const DEF_AND_OP: u8 = 0x7b;
+
+pub const DEF_OR_OP: u8 = 0x7d;
+
+pub const DEF_X_OR_OP: u8 = 0x7f;
+
+pub const DEF_NOT_OP: u8 = 0x80;
+
+pub const DEF_FIND_SET_LEFT_BIT_OP: u8 = 0x81;
+
+pub const DEF_FIND_SET_RIGHT_BIT_OP: u8 = 0x82;
 
 pub const DEF_L_AND_OP: u8 = 0x90;
 
@@ -79,12 +91,18 @@ pub enum StepOp {
 
 pub enum OneOp {
     Store,
+    Not,
+    FindSetLeftBit,
+    FindSetRightBit,
     LNot,
 }
 
 pub enum TwoOp {
     Add,
+    Subtract,
     And,
+    Or,
+    XOr,
     LAnd,
     LOr,
     LEqual,
@@ -151,9 +169,15 @@ pub fn term_op(b: u8) -> TermOp
         DEF_INCREMENT_OP => TermOp::Step(StepOp::Increment),
         DEF_DECREMENT_OP => TermOp::Step(StepOp::Decrement),
         DEF_STORE_OP => TermOp::One(OneOp::Store, Dest::ToCell),
+        DEF_NOT_OP => TermOp::One(OneOp::Not, Dest::ToTarget),
+        DEF_FIND_SET_LEFT_BIT_OP => TermOp::One(OneOp::FindSetLeftBit, Dest::ToTarget),
+        DEF_FIND_SET_RIGHT_BIT_OP => TermOp::One(OneOp::FindSetRightBit, Dest::ToTarget),
         DEF_L_NOT_OP => TermOp::One(OneOp::LNot, Dest::Nowhere),
         DEF_ADD_OP => TermOp::Two(TwoOp::Add, Dest::ToTarget),
+        DEF_SUBTRACT_OP => TermOp::Two(TwoOp::Subtract, Dest::ToTarget),
         DEF_AND_OP => TermOp::Two(TwoOp::And, Dest::ToTarget),
+        DEF_OR_OP => TermOp::Two(TwoOp::Or, Dest::ToTarget),
+        DEF_X_OR_OP => TermOp::Two(TwoOp::XOr, Dest::ToTarget),
         DEF_L_AND_OP => TermOp::Two(TwoOp::LAnd, Dest::Nowhere),
         DEF_L_OR_OP => TermOp::Two(TwoOp::LOr, Dest::Nowhere),
         DEF_L_EQUAL_OP => TermOp::Two(TwoOp::LEqual, Dest::Nowhere),

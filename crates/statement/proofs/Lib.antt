@@ -1,5 +1,6 @@
 pub mod Copies
 mod Numbers
+mod Finders
 pub mod Theorems
 pub mod Units
 mod Evals

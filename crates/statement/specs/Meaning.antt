@@ -1,8 +1,8 @@
 -- What a reading means, for any memory and budget: over the tree alone, without the check or the run. w is the width of numbers in bits.
-use Prim.Native.Nat.{ℕ, zero, suc, _+_, _-_, _^_, _%_}
+use Prim.Native.Nat.{ℕ, zero, suc, _+_, _-_, _/_, _^_, _%_}
 use mathlib.Core.Bool.{Bool, true, false, not, cond}
 use lib.Dec.{ltb, eqb}
-use lib.Bits.{bitAnd}
+use lib.Bits.{bitAnd, bitOr, bitXor}
 use Rattle.pkg_length.specs.Refusal.{Answer, gives, refuses}
 use Rattle.statement.specs.declared.frame.Frame.{Frame}
 use Rattle.grammar.specs.declared.opcode.Plain.{Plain}
@@ -10,11 +10,11 @@ use Rattle.grammar.specs.declared.opcode.Plain.the-variants.{Break, Continue, B
 use Rattle.grammar.specs.declared.opcode.StepOp.{StepOp}
 use Rattle.grammar.specs.declared.opcode.StepOp.the-variants.{Increment, Decrement}
 use Rattle.grammar.specs.declared.opcode.OneOp.{OneOp}
-use Rattle.grammar.specs.declared.opcode.OneOp.the-variants.{Store, LNot}
+use Rattle.grammar.specs.declared.opcode.OneOp.the-variants.{Store, Not, FindSetLeftBit, FindSetRightBit, LNot}
 use Rattle.grammar.specs.declared.opcode.TwoOp.{TwoOp}
-use Rattle.grammar.specs.declared.opcode.TwoOp.the-variants.{Add, And, LAnd, LOr, LEqual, LGreater, LLess}
+use Rattle.grammar.specs.declared.opcode.TwoOp.the-variants.{Add, Subtract, And, Or, XOr, LAnd, LOr, LEqual, LGreater, LLess}
 use Rattle.grammar.specs.Tree.{Place, cell, Target, nowhere, to, Term, const, read, step, one, two, Stmt, plain, return, ifElse, while, expr, Stmts, nil, cons}
-use Rattle.statement.specs.Frames.{bits, held, wrote, begun}
+use Rattle.statement.specs.Frames.{bits, low, held, wrote, begun}
 
 -- ## Numbers
 
@@ -31,8 +31,30 @@ abbrev pub stepped : ℕ → StepOp → ℕ → ℕ
 stepped w Increment n = (n + 1) % 2 ^ w
 stepped w Decrement n = (n + allOnes w) % 2 ^ w
 
+-- bit k of n is set
+abbrev pub isSet : ℕ → ℕ → Bool
+isSet n k = eqb (n / 2 ^ k % 2) 1
+
+-- one more than the greatest k below w of which p holds; 0 where there is none
+unfoldable pub greatest : (ℕ → Bool) → ℕ → ℕ
+greatest p zero = 0
+greatest p (suc k) = cond (p k) (suc k) (greatest p k)
+
+-- one more than the least
+abbrev pub orElse : ℕ → ℕ → ℕ
+orElse zero b = b
+orElse (suc a) b = suc a
+
+unfoldable pub least : (ℕ → Bool) → ℕ → ℕ
+least p zero = 0
+least p (suc k) = orElse (least p k) (cond (p k) (suc k) 0)
+
+-- Not is the complement within the width; the finders give one-based positions
 abbrev pub unary : ℕ → OneOp → ℕ → ℕ
 unary w Store n = n
+unary w Not n = allOnes w - low w n
+unary w FindSetLeftBit n = greatest (isSet n) w
+unary w FindSetRightBit n = least (isSet n) w
 unary w LNot n = truth w (eqb n 0)
 
 abbrev pub both : Bool → Bool → Bool
@@ -45,7 +67,10 @@ either false b = b
 
 abbrev pub binary : ℕ → TwoOp → ℕ → ℕ → ℕ
 binary w Add a b = (a + b) % 2 ^ w
+binary w Subtract a b = (a + (2 ^ w - low w b)) % 2 ^ w
 binary w And a b = bitAnd a b
+binary w Or a b = bitOr a b
+binary w XOr a b = bitXor a b
 binary w LAnd a b = truth w (both (not (eqb a 0)) (not (eqb b 0)))
 binary w LOr a b = truth w (either (not (eqb a 0)) (not (eqb b 0)))
 binary w LEqual a b = truth w (eqb a b)

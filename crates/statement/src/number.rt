@@ -78,11 +78,39 @@ pub(crate) fn stepped(op: StepOp, n: u64, w: Width) -> u64
     }
 }
 
+// What the finders give for zero.
+const NO_BIT: u64 = 0;
+
+// All but the zeros above the highest set bit.
+fn find_set_left_bit(n: u64, w: Width) -> u64
+    ensures { λ r. ⌜ r ≡ meaning.greatest (meaning.isSet n) (bits w) ⌝ }
+{
+    let m = wrapped(n, w);
+    if m == 0 {
+        return NO_BIT;
+    }
+    64 - u64::leading_zeros(m) as u64
+}
+
+// One more than the zeros below the lowest.
+fn find_set_right_bit(n: u64, w: Width) -> u64
+    ensures { λ r. ⌜ r ≡ meaning.least (meaning.isSet n) (bits w) ⌝ }
+{
+    let m = wrapped(n, w);
+    if m == 0 {
+        return NO_BIT;
+    }
+    u64::trailing_zeros(m) as u64 + 1
+}
+
 pub(crate) fn unary(op: OneOp, n: u64, w: Width) -> u64
     ensures { λ r. ⌜ r ≡ meaning.unary (bits w) op n ⌝ }
 {
     match op {
         OneOp::Store => n,
+        OneOp::Not => all_ones(w) - wrapped(n, w),
+        OneOp::FindSetLeftBit => find_set_left_bit(n, w),
+        OneOp::FindSetRightBit => find_set_right_bit(n, w),
         OneOp::LNot => truth(n == 0, w),
     }
 }
@@ -92,7 +120,10 @@ pub(crate) fn binary(op: TwoOp, a: u64, b: u64, w: Width) -> u64
 {
     match op {
         TwoOp::Add => wrapped(std::num::wrapping_add_u64(a, b), w),
+        TwoOp::Subtract => wrapped(std::num::wrapping_sub_u64(a, b), w),
         TwoOp::And => a & b,
+        TwoOp::Or => a | b,
+        TwoOp::XOr => a ^ b,
         TwoOp::LAnd => truth(both(a, b), w),
         TwoOp::LOr => truth(either(a, b), w),
         TwoOp::LEqual => truth(a == b, w),

@@ -16,12 +16,18 @@ returns : tie.Need-returns
 unfolding termOp look
 returns c = rw (c .wide .ensures, sym (c .before .before .is-cell .ensures) ∙ c .before .if1 .taken)
 
-returns-20 : tie.Need-returns-20
+returns-26 : tie.Need-returns-26
 unfolding termOp look
-returns-20 c =
+returns-26 c =
     let r = c .match .rest in
     simp (
       sym (c .before .before .is-cell .ensures) ∙ c .before .if1 .left,
+      ne-eqb _ _ (r .0 .0 .0 .0 .0 .0 .0 .0 .0 .0 .0 .0 .0 .0 .0 .0 .0 .0 .0 .0 .0 .0 .0 .1),
+      ne-eqb _ _ (r .0 .0 .0 .0 .0 .0 .0 .0 .0 .0 .0 .0 .0 .0 .0 .0 .0 .0 .0 .0 .0 .0 .1),
+      ne-eqb _ _ (r .0 .0 .0 .0 .0 .0 .0 .0 .0 .0 .0 .0 .0 .0 .0 .0 .0 .0 .0 .0 .0 .1),
+      ne-eqb _ _ (r .0 .0 .0 .0 .0 .0 .0 .0 .0 .0 .0 .0 .0 .0 .0 .0 .0 .0 .0 .0 .1),
+      ne-eqb _ _ (r .0 .0 .0 .0 .0 .0 .0 .0 .0 .0 .0 .0 .0 .0 .0 .0 .0 .0 .0 .1),
+      ne-eqb _ _ (r .0 .0 .0 .0 .0 .0 .0 .0 .0 .0 .0 .0 .0 .0 .0 .0 .0 .0 .1),
       ne-eqb _ _ (r .0 .0 .0 .0 .0 .0 .0 .0 .0 .0 .0 .0 .0 .0 .0 .0 .0 .1),
       ne-eqb _ _ (r .0 .0 .0 .0 .0 .0 .0 .0 .0 .0 .0 .0 .0 .0 .0 .0 .1),
       ne-eqb _ _ (r .0 .0 .0 .0 .0 .0 .0 .0 .0 .0 .0 .0 .0 .0 .0 .1),
@@ -64,4 +70,10 @@ term-op-spec =
     (λ c. rw (sym (c .before .before .is-cell .ensures) ∙ c .before .if1 .left, c .match .keys16))
     (λ c. rw (sym (c .before .before .is-cell .ensures) ∙ c .before .if1 .left, c .match .keys17))
     (λ c. rw (sym (c .before .before .is-cell .ensures) ∙ c .before .if1 .left, c .match .keys18))
-    returns-20)
+    (λ c. rw (sym (c .before .before .is-cell .ensures) ∙ c .before .if1 .left, c .match .keys19))
+    (λ c. rw (sym (c .before .before .is-cell .ensures) ∙ c .before .if1 .left, c .match .keys20))
+    (λ c. rw (sym (c .before .before .is-cell .ensures) ∙ c .before .if1 .left, c .match .keys21))
+    (λ c. rw (sym (c .before .before .is-cell .ensures) ∙ c .before .if1 .left, c .match .keys22))
+    (λ c. rw (sym (c .before .before .is-cell .ensures) ∙ c .before .if1 .left, c .match .keys23))
+    (λ c. rw (sym (c .before .before .is-cell .ensures) ∙ c .before .if1 .left, c .match .keys24))
+    returns-26)
