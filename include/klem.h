@@ -54,7 +54,7 @@ extern "C" {
 /* The version of this interface. A new number or a new call changes MINOR; what a program must be changed for changes MAJOR, or MINOR
  * while MAJOR is 0. */
 #define KLEM_VERSION_MAJOR 0
-#define KLEM_VERSION_MINOR 5
+#define KLEM_VERSION_MINOR 6
 #define KLEM_VERSION_PATCH 0
 
 /* Lengths of slices */
@@ -130,6 +130,11 @@ extern "C" {
 #define KLEM_POWER_RESOURCE 3
 #define KLEM_THERMAL_ZONE 4
 #define KLEM_METHOD_LOCALS 5
+
+/* A level in a word of klem_levels: its depth, its type, and byte i of its segment, from 0 to 3 */
+#define KLEM_LEVEL_DEPTH(word) ((word) >> 40)
+#define KLEM_LEVEL_TYPE(word) ((word) >> 32 & 255)
+#define KLEM_LEVEL_BYTE(word, i) ((word) >> 8 * (i) & 255)
 
 /* How a run ended */
 #define KLEM_FINISHED 0
@@ -232,6 +237,10 @@ uint64_t klem_search(const uint64_t *table, size_t table_len, const uint8_t *pat
 /* the same over levels; a path that is not one bare segment is given back unchanged, with 0 asked.
  * out: the full name. values: the scopes asked. refuses: 24, 26, 11, 10, 15 */
 uint64_t klem_search_for_level(const uint64_t *table, size_t table_len, const uint8_t *path, size_t path_len, const uint8_t *scope, size_t scope_len, uint8_t *out, size_t out_len, uint64_t *result, size_t result_len);
+/* writes the levels from the one at a path down to the start of list, a word for each (KLEM_LEVEL_DEPTH, KLEM_LEVEL_TYPE, KLEM_LEVEL_BYTE): a level before
+ * those below it, siblings in byte order, the root with depth 0 and four zero bytes. What follows them stays. At most KLEM_LEVELS words are needed.
+ * values: how many were written. refuses: 24, 26, 11, 10, 15, 25 (they do not fit; the place is how many there are, and list stays) */
+uint64_t klem_levels(const uint64_t *table, size_t table_len, const uint8_t *path, size_t path_len, uint64_t *list, size_t list_len, uint64_t *result, size_t result_len);
 
 /* Control blocks, of at most 65,536 bytes, and frames.
  * A frame has KLEM_CELLS cells: from KLEM_LOCAL0 eight Locals, from KLEM_ARG0 seven Args. Word c is 0 where cell c is unset, and

@@ -175,6 +175,8 @@ def table_calls(r, n):
             line = "object " + r.choice([absolute(r), path_text(r)])
         elif k < .75:
             line = "set-object %s %d" % (r.choice([absolute(r), path_text(r)]), r.getrandbits(64))
+        elif k < .79:
+            line = "levels %s %d" % (r.choice([absolute(r), path_text(r), "\\"]), r.choice([0, 1, 4, 16, 128]))
         elif k < .9:
             line = "search %s %s" % (r.choice(["A", "B", "C", path_text(r)]), r.choice([absolute(r, 5), path_text(r)]))
         else:

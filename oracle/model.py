@@ -431,6 +431,16 @@ class Paper:
             raise Refused(15, 1)
         return "ok %s asked %d" % (shown(found[0]), found[1])
 
+    def levels(self, p, room):
+        keys = tuple(settled(paths([p])[0])[1:])
+        for i in range(1, len(keys) + 1):
+            if keys[:i] not in self.table.levels:
+                raise Refused(15, i)
+        found = sorted(k for k in self.table.levels if k[:len(keys)] == keys)
+        if int(room) < len(found):
+            raise Refused(25, len(found))
+        return "ok %d" % len(found) + "".join(" %d/%d/%s" % (len(k), self.table.levels[k], k[-1] if k else "-") for k in found)
+
     def whole_table(self, h):
         return "ok %s revision %d body 36 to %d" % header(unhexed(h))
 

@@ -502,6 +502,25 @@ def table_words(levels, bindings, values):
     return ws + [0] * (640 - len(ws)) + [len(values)] + values + [0] * (512 - len(values))
 
 
+def listed():
+    note("document 02, R-8: the levels from one down; 25 with the number needed")
+    case("levels \\ 3", "ok 3 0/0/- 1/0/A___ 2/1/B___")
+    case("levels \\ 128", "ok 3 0/0/- 1/0/A___ 2/1/B___")
+    case("levels \\ 2", refused(25, 3))
+    case("levels \\ 0", refused(25, 3))
+    case("levels \\A 2", "ok 2 1/0/A___ 2/1/B___")
+    case("levels \\A 1", refused(25, 2))
+    case("levels \\A.B 1", "ok 1 2/1/B___")
+    case("levels \\Q.^A.B 1", "ok 1 2/1/B___")
+    case("levels \\A.B 0", refused(25, 1))
+    case("levels A 9", refused(11))
+    case("levels \\^A 9", refused(10))
+    case("levels \\Q.R 0", refused(15, 1))
+    case("levels \\A.Q 0", refused(15, 2))
+    case("levels =33: 9", refused(26))
+    case("tree", "\n".join(["ok 3", "\\ Scope", "  X___ = 5 handle 0", "  A___ Scope", "    X___ = 6 handle 1", "    B___ Device"]))
+
+
 def tables():
     note("document 01: the table")
     fresh = table_words([(1, 0, 0, 0)], [], [])
@@ -526,6 +545,7 @@ def tables():
     case("search-level Z \\A", refused(15, 1))
     case("search-level ^Z nowhere", refused(8, 0))
     case("search-level ^Z A", "ok ^Z___ asked 0")
+    listed()
     note("each refusal in its order, and a refused edit leaves the memory as it was")
     for line, answer in [("level A 0", refused(11)), ("level \\^A 0", refused(10)), ("level \\ 5", "ok"), ("level \\Q.R 0", refused(15, 1)), ("level \\A.Q.R 0", refused(15, 2)),
                          ("level \\A.B 5", "ok"), ("remove A", refused(11)), ("remove \\", refused(14)), ("remove \\A.Q", refused(15, 2)), ("remove \\Q.R", refused(15, 1)),
@@ -633,7 +653,7 @@ def deepest():
     case("search X %s" % path, "ok \\%s.X___ handle 1 asked 2" % ".".join(["D___"] * 30))
 
 
-CALLS = ("level \\B 0", "remove \\A", "value \\Y 1", "value-at Y \\ 1", "alias Y \\ \\A.X", "get 0", "set 0 1", "handle \\A.X", "object \\A.X", "set-object \\A.X 1", "search X \\A",
+CALLS = ("levels \\ 0", "tree", "level \\B 0", "remove \\A", "value \\Y 1", "value-at Y \\ 1", "alias Y \\ \\A.X", "get 0", "set 0 1", "handle \\A.X", "object \\A.X", "set-object \\A.X 1", "search X \\A",
          "search-level A \\")
 
 

@@ -378,7 +378,45 @@ fn board() -> Vec<Row> {
         },
         move || same_board(&same),
     );
-    vec![search, lookup, get]
+    vec![search, lookup, get, listed(board)]
+}
+
+// The port lists the levels, the Rust walks them with `traverse`, from the root, and makes each one's name on the way.
+fn listed(board: Rc<Board>) -> Row {
+    let (mut walked, mut same) = (board.namespace.clone(), board.namespace.clone());
+    let port = board.clone();
+    reading(
+        "list 101 levels from the root (the Rust: traverse)",
+        500,
+        vec![Path::root()],
+        vec![()],
+        move |p| port.table.levels(black_box(p)).into_iter().flatten().for_each(done),
+        move |()| {
+            done(walked.traverse(|name, level| {
+                black_box((name, level.typ));
+                Ok(true)
+            }));
+        },
+        move || {
+            let mut names = vec![];
+            same.traverse(|name, _| {
+                names.push(name.as_string());
+                Ok(true)
+            })
+            .map_err(|e| format!("{e:?}"))?;
+            let mut levels = board.table.levels(&Path::root()).map_err(|e| e.to_string())?;
+            equal(&"levels", levels.len(), names.len())?;
+            for name in &names {
+                let level = levels.next().ok_or("a level is missing")?;
+                let depth = if name == "\\" { 0 } else { name.matches('.').count() + 1 };
+                equal(name, level.depth, depth)?;
+                if depth > 0 {
+                    equal(name, String::from_utf8_lossy(&level.segment).into_owned(), name[name.len() - 4..].to_string())?;
+                }
+            }
+            Ok(1)
+        },
+    )
 }
 
 fn grown(n: usize) -> Row {

@@ -181,6 +181,7 @@ static uint64_t search(const char *name, const char *scope, uint8_t *out) {
 
 static void tables(void) {
     uint8_t out[KLEM_PATH];
+    uint64_t list[4];
     static uint64_t before[KLEM_TABLE];
 
     MUST(!klem_well_formed(table, KLEM_TABLE));
@@ -200,6 +201,17 @@ static void tables(void) {
     REFUSES_OUT(KLEM_LEVEL_DOES_NOT_EXIST, 1, klem_search_for_level(table, KLEM_TABLE, path("Z").bytes, KLEM_PATH, path("\\A").bytes, KLEM_PATH, out, KLEM_PATH, r, KLEM_RESULT));
     GIVES(3, 0, 0, klem_search_for_level(table, KLEM_TABLE, path("B").bytes, KLEM_PATH, path("\\A.B.C").bytes, KLEM_PATH, out, KLEM_PATH, r, KLEM_RESULT));
     MUST(is(out, "\\A.B"));
+
+    list[2] = list[3] = 7;
+    REFUSES(KLEM_OUT_TOO_SMALL, 3, klem_levels(table, KLEM_TABLE, path("\\").bytes, KLEM_PATH, list, 2, r, KLEM_RESULT));
+    REFUSES(KLEM_LEVEL_DOES_NOT_EXIST, 2, klem_levels(table, KLEM_TABLE, path("\\A.Q").bytes, KLEM_PATH, list, 4, r, KLEM_RESULT));
+    MUST(list[2] == 7);
+    GIVES(3, 0, 0, klem_levels(table, KLEM_TABLE, path("\\").bytes, KLEM_PATH, list, 4, r, KLEM_RESULT));
+    MUST(list[0] == 0 && list[3] == 7);
+    MUST(KLEM_LEVEL_DEPTH(list[1]) == 1 && KLEM_LEVEL_TYPE(list[1]) == KLEM_SCOPE && KLEM_LEVEL_BYTE(list[1], 0) == 'A');
+    MUST(KLEM_LEVEL_DEPTH(list[2]) == 2 && KLEM_LEVEL_TYPE(list[2]) == KLEM_DEVICE && KLEM_LEVEL_BYTE(list[2], 0) == 'B' && KLEM_LEVEL_BYTE(list[2], 3) == '_');
+    GIVES(1, 0, 0, klem_levels(table, KLEM_TABLE, path("\\A.B").bytes, KLEM_PATH, list, 1, r, KLEM_RESULT));
+    MUST(KLEM_LEVEL_DEPTH(list[0]) == 2);
 
     REFUSES_EDIT(KLEM_LEVEL_DOES_NOT_EXIST, 2, add_level("\\A.Q.R", KLEM_SCOPE));
     REFUSES_EDIT(KLEM_NAME_COLLISION, 0, add_value("\\A.X", 9));
@@ -446,6 +458,7 @@ static struct {
     uint64_t result[KLEM_RESULT + 1], table[KLEM_TABLE + 1], frame[KLEM_FRAME + 1];
     uint8_t input[8], seg[KLEM_SEGMENT + 1], bytes[KLEM_COMPONENT_BYTES + 1], text[KLEM_TEXT_BYTES];
     uint8_t out[KLEM_PATH + 1], path[KLEM_PATH + 1], scope[KLEM_PATH + 1], target[KLEM_PATH + 1];
+    uint64_t list[KLEM_LEVELS];
 } m, kept;
 
 #define UNTOUCHED(call)                           \
@@ -554,6 +567,8 @@ static void misuse(void) {
     WRONG(KLEM_PATH, klem_search_for_level(T, m.target, n, SCOPE, OUT, R));
     WRONG(KLEM_PATH, klem_search_for_level(T, TARGET, m.scope, n, OUT, R));
     WRONG(KLEM_PATH, klem_search_for_level(T, TARGET, SCOPE, m.out, n, R));
+    WRONG(KLEM_RESULT, klem_levels(T, TARGET, m.list, KLEM_LEVELS, RN));
+    WRONG(KLEM_PATH, klem_levels(T, m.target, n, m.list, KLEM_LEVELS, R));
 
     WRONG(KLEM_RESULT, klem_check(INPUT, RN));
     WRONG(KLEM_RESULT, klem_run(INPUT, FRAME, 9, RN));

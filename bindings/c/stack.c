@@ -17,6 +17,7 @@ static ucontext_t here, there;
 static uint64_t r[KLEM_RESULT], table[KLEM_TABLE], frame[KLEM_FRAME];
 static uint8_t a[KLEM_PATH], b[KLEM_PATH], out[KLEM_PATH], text[KLEM_TEXT_BYTES];
 static uint8_t block[4096];
+static uint64_t list[KLEM_LEVELS];
 static size_t block_len;
 
 static size_t used_by(void (*call)(void)) {
@@ -44,6 +45,7 @@ static void values(void) { klem_add_value_at_resolved_path(table, KLEM_TABLE, b,
 static void aliases(void) { klem_add_alias_at_resolved_path(table, KLEM_TABLE, b, KLEM_PATH, a, KLEM_PATH, b, KLEM_PATH, r, KLEM_RESULT); }
 static void searches(void) { klem_search(table, KLEM_TABLE, b, KLEM_PATH, a, KLEM_PATH, out, KLEM_PATH, r, KLEM_RESULT); }
 static void level_searches(void) { klem_search_for_level(table, KLEM_TABLE, b, KLEM_PATH, a, KLEM_PATH, out, KLEM_PATH, r, KLEM_RESULT); }
+static void lists(void) { klem_levels(table, KLEM_TABLE, a, KLEM_PATH, list, KLEM_LEVELS, r, KLEM_RESULT); }
 static void gets(void) { klem_set_by_path(table, KLEM_TABLE, a, KLEM_PATH, 1, r, KLEM_RESULT); }
 static void removes(void) { klem_remove_level(table, KLEM_TABLE, a, KLEM_PATH, r, KLEM_RESULT); }
 static void checks(void) { klem_check(block, block_len, r, KLEM_RESULT); }
@@ -115,6 +117,7 @@ int main(void) {
     say("add alias", aliases, MOST_OTHER);
     say("search", searches, MOST_OTHER);
     say("search level", level_searches, MOST_OTHER);
+    say("levels", lists, MOST_OTHER);
     say("set by path", gets, MOST_OTHER);
     say("remove level", removes, MOST_OTHER);
     /* the deepest block that runs, at both widths, and three that are refused for one level more: of terms, of statements, of both */

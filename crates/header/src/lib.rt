@@ -130,7 +130,7 @@ fn write_signed(
         return WriteAnswer::Refused(AmlError::BadTableLength);
     }
     if out.len() < 36 + body.len() {
-        return WriteAnswer::Refused(AmlError::OutTooSmall);
+        return WriteAnswer::Refused(AmlError::OutTooSmall(0));
     }
     WriteAnswer::Length(fill::fill(out, s, revision, rest, body))
 }

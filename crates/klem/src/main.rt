@@ -4,6 +4,7 @@ mod arg;
 mod basic;
 mod block;
 mod calls;
+mod levels;
 mod rows;
 mod said;
 mod show;
@@ -94,6 +95,22 @@ fn reply(
     let a = arg::read(rows::row(rows, k), line);
     let hex = words::bytes_of(words::spelled(line, a.hex), bytes);
     let s = asked(k, a, hex, line, rows, table, bytes);
+    told(k, s, a, line, line_number, rows, table, bytes, out, at)
+}
+
+// A run, a table that is written and levels have more to write than a form.
+fn told(
+    k: usize,
+    s: Said,
+    a: Args,
+    line: &[u8],
+    line_number: u64,
+    rows: &[u8],
+    table: &[u64],
+    bytes: &[u8],
+    out: &mut [u8],
+    at: usize,
+) -> usize {
     if s.form == rows::RUN {
         let block = words::part(bytes, 0, s.x as usize);
         return block::run(
@@ -111,6 +128,9 @@ fn reply(
         let body = words::part(bytes, 0, s.x as usize);
         return tables::write(a, body, line, line_number, rows, out, at);
     }
+    if s.form == rows::LEVELS {
+        return levels::answer(s.x as usize, a.first, a.x, table, rows, out, at);
+    }
     show::said(out, at, said::at_line(s, line_number), rows)
 }
 
@@ -122,7 +142,7 @@ fn width(k: usize) -> Width {
     }
 }
 
-// What a command says. A run says how long its block is, and a table that is to be written how long its body is.
+// What a command says. A run says how long its block is, a table that is to be written how long its body is, and a list of levels which command it is.
 fn asked(
     k: usize,
     a: Args,
@@ -170,11 +190,12 @@ fn call(
         b'E' => calls::edits(k, a, table),
         b'R' => said::numbers(rows::RUN, n as u64, 0, 0),
         b'W' => said::numbers(rows::WRITE_TABLE, n as u64, 0, 0),
+        b'D' => said::numbers(rows::LEVELS, k as u64, 0, 0),
         _ => help(rows, words::behind(line, a.rest)),
     }
 }
 
-// What a command is about: bytes, paths, looks at the table or edits of it, runs, writing a table, help.
+// What a command is about: bytes, paths, looks at the table or edits of it, runs, writing a table, levels drawn, help.
 fn group(k: usize) -> u8 {
     match k {
         rows::PKG..=rows::NAME | rows::SEG | rows::CHECK | rows::TABLE => b'B',
@@ -184,6 +205,7 @@ fn group(k: usize) -> u8 {
         rows::SEARCH | rows::SEARCH_LEVEL => b'L',
         rows::RUN | rows::RUN32 => b'R',
         rows::WRITE_TABLE => b'W',
+        rows::LEVELS | rows::TREE => b'D',
         rows::HELP => b'H',
         _ => b'E',
     }

@@ -2,7 +2,7 @@
 // least one blank at its end. One table is lent to all: proving a call that lends a text of its own costs as much as six calls that lend none.
 use crate::words;
 
-pub const TEXT: [u8; 4560] = *b"pkg HEX                                 \
+pub const TEXT: [u8; 4880] = *b"pkg HEX                                 \
     raw HEX                                 \
     fit LENGTH RAW                          \
     still END LENGTH                        \
@@ -33,6 +33,8 @@ pub const TEXT: [u8; 4560] = *b"pkg HEX                                 \
     set-object PATH NUMBER                  \
     search PATH SCOPE                       \
     search-level PATH SCOPE                 \
+    levels PATH ROOM                        \
+    tree                                    \
     check HEX                               \
     run BUDGET HEX [CELL=NUMBER ..]         \
     run32 BUDGET HEX [CELL=NUMBER ..]       \
@@ -83,6 +85,12 @@ pub const TEXT: [u8; 4560] = *b"pkg HEX                                 \
     klem: # $                               \
     lines were not understood               \
     klem: writing failed                    \
+    Scope                                   \
+    Device                                  \
+    Processor                               \
+    PowerResource                           \
+    ThermalZone                             \
+    MethodLocals                            \
     (empty)                                 \
     -                                       \
     UnexpectedEndOfStream                   \
@@ -180,114 +188,121 @@ pub const SEARCH: usize = 29;
 
 pub const SEARCH_LEVEL: usize = 30;
 
-pub const CHECK: usize = 31;
+pub const LEVELS: usize = 31;
 
-pub const RUN: usize = 32;
+pub const TREE: usize = 32;
 
-pub const RUN32: usize = 33;
+pub const CHECK: usize = 33;
 
-pub const WIDTH: usize = 34;
+pub const RUN: usize = 34;
 
-pub const SSDT_WIDTH: usize = 35;
+pub const RUN32: usize = 35;
 
-pub const TABLE: usize = 36;
+pub const WIDTH: usize = 36;
 
-pub const WRITE_TABLE: usize = 37;
+pub const SSDT_WIDTH: usize = 37;
 
-pub const HELP: usize = 38;
+pub const TABLE: usize = 38;
 
-pub const COMMANDS: usize = 39;
+pub const WRITE_TABLE: usize = 39;
+
+pub const HELP: usize = 40;
+
+pub const COMMANDS: usize = 41;
 
 // The forms. `#` is the answer's next number, `@` its path, `$` the row that its next number says, `*` the commands' names. From
 // BAD_SIZE to WORDS they are faults of a line's words: the greatest is told, and of those from BAD_NUMBER on the first.
-pub const OK: usize = 39;
+pub const OK: usize = 41;
 
-pub const NUMBER: usize = 40;
+pub const NUMBER: usize = 42;
 
-pub const HANDLE_IS: usize = 41;
+pub const HANDLE_IS: usize = 43;
 
-pub const RAW_LENGTH: usize = 42;
+pub const RAW_LENGTH: usize = 44;
 
-pub const LENGTH: usize = 43;
+pub const LENGTH: usize = 45;
 
-pub const PKG_LENGTH: usize = 44;
+pub const PKG_LENGTH: usize = 46;
 
-pub const DSDT: usize = 45;
+pub const DSDT: usize = 47;
 
-pub const SSDT: usize = 46;
+pub const SSDT: usize = 48;
 
-pub const CHARS: usize = 47;
+pub const CHARS: usize = 49;
 
-pub const KINDS: usize = 48;
+pub const KINDS: usize = 50;
 
-pub const PATH: usize = 49;
+pub const PATH: usize = 51;
 
-pub const PATH_USED: usize = 50;
+pub const PATH_USED: usize = 52;
 
-pub const LEVEL_FOUND: usize = 51;
+pub const LEVEL_FOUND: usize = 53;
 
-pub const FOUND: usize = 52;
+pub const FOUND: usize = 54;
 
-pub const NAMES: usize = 53;
+pub const NAMES: usize = 55;
 
-pub const USAGE: usize = 54;
+pub const USAGE: usize = 56;
 
-pub const FINISHED: usize = 55;
+pub const FINISHED: usize = 57;
 
-pub const RETURNED: usize = 56;
+pub const RETURNED: usize = 58;
 
-pub const BREAK: usize = 57;
+pub const BREAK: usize = 59;
 
-pub const CONTINUE: usize = 58;
+pub const CONTINUE: usize = 60;
 
-pub const UNITS: usize = 59;
+pub const UNITS: usize = 61;
 
-pub const CELL: usize = 60;
+pub const CELL: usize = 62;
 
-pub const NO_CELL: usize = 61;
+pub const NO_CELL: usize = 63;
 
-pub const BAD_SIZE: usize = 62;
+pub const BAD_SIZE: usize = 64;
 
-pub const REFUSED: usize = 63;
+pub const REFUSED: usize = 65;
 
-pub const BAD_PATH: usize = 64;
+pub const BAD_PATH: usize = 66;
 
-pub const BAD_NUMBER: usize = 65;
+pub const BAD_NUMBER: usize = 67;
 
-pub const BAD_HEX: usize = 66;
+pub const BAD_HEX: usize = 68;
 
-pub const BAD_TYPE: usize = 67;
+pub const BAD_TYPE: usize = 69;
 
-pub const TOO_LONG: usize = 68;
+pub const TOO_LONG: usize = 70;
 
-pub const WORDS: usize = 69;
+pub const WORDS: usize = 71;
 
-pub const NO_COMMAND: usize = 70;
+pub const NO_COMMAND: usize = 72;
 
-pub const ONE_BYTE: usize = 71;
+pub const ONE_BYTE: usize = 73;
 
-pub const FOUR_BYTES: usize = 72;
+pub const FOUR_BYTES: usize = 74;
 
-pub const REST_BYTES: usize = 73;
+pub const REST_BYTES: usize = 75;
 
-pub const NO_WORD: usize = 74;
+pub const NO_WORD: usize = 76;
 
-pub const BAD_CELL: usize = 75;
+pub const BAD_CELL: usize = 77;
 
-pub const LONG_LINE: usize = 76;
+pub const LONG_LINE: usize = 78;
 
-pub const NOT_ONE: usize = 77;
+pub const NOT_ONE: usize = 79;
 
-pub const NOT_UNDERSTOOD: usize = 78;
+pub const NOT_UNDERSTOOD: usize = 80;
 
-pub const LINES: usize = 79;
+pub const LINES: usize = 81;
 
-pub const NOT_WRITTEN: usize = 80;
+pub const NOT_WRITTEN: usize = 82;
 
-pub const EMPTY: usize = 81;
+// The six types of levels, from 0 on.
+pub const TYPES: usize = 83;
+
+pub const EMPTY: usize = 89;
 
 // The refusals from 1 on stand behind this row.
-pub const REFUSALS: usize = 82;
+pub const REFUSALS: usize = 90;
 
 // A row without the blanks at its end.
 pub fn row(rows: &[u8], k: usize) -> &[u8] {

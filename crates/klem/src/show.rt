@@ -23,7 +23,7 @@ pub fn text(out: &mut [u8], at: usize, s: &[u8]) -> usize {
     o
 }
 
-fn number(out: &mut [u8], at: usize, n: u64) -> usize {
+pub fn number(out: &mut [u8], at: usize, n: u64) -> usize {
     let mut digits = [0u8; 20];
     let k = io::decimal(n, &mut digits);
     text(out, at, &digits[..k])

@@ -1,4 +1,5 @@
 -- What the proofs of several functions use.
 mod Copies
+mod Packed
 mod Results
 mod Runs

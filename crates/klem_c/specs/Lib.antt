@@ -4,4 +4,5 @@ pub mod Headers
 pub mod Frames
 pub mod Lengths
 pub mod Tables
+pub mod Levels
 pub mod Blocks

@@ -3,6 +3,7 @@ pub mod blocks;
 mod frames;
 pub mod headers;
 pub mod lengths;
+pub mod levels;
 pub mod names;
 pub mod paths;
 mod reply;

@@ -11,6 +11,7 @@ ghost use Rattle.path.specs.Normal.{pathSaid, flagSaid};
 ghost use Rattle.path.specs.Text.{textSaid};
 ghost use Rattle.namespace.specs.Calls.{editSaid, valueSaid, handleSaid};
 ghost use Rattle.namespace.specs.Search.{searchSaid, levelSaid};
+ghost use Rattle.namespace.specs.Levels.{levelsSaid};
 ghost use Rattle.grammar.specs.Grammar.{cells};
 ghost use Rattle.statement.specs.Frames.{cellSaid};
 ghost use Rattle.grammar.specs.Promise.{checkSaid};
@@ -33,6 +34,7 @@ use name_object::NameSaid;
 use namespace::EditAnswer;
 use namespace::HandleAnswer;
 use namespace::LevelSaid;
+use namespace::LevelsAnswer;
 use namespace::SearchSaid;
 use namespace::ValueAnswer;
 use path::FlagAnswer;
@@ -222,6 +224,15 @@ pub(crate) fn text(a: TextAnswer) -> Reply
     match a {
         TextAnswer::Length(n) => given(n as u64, 0, 0),
         TextAnswer::Refused(e) => refusal(e),
+    }
+}
+
+pub(crate) fn levels(a: LevelsAnswer) -> Reply
+    ensures { λ r. ⌜ wordsOf r ≡ resultOf (valued one (levelsSaid a)) ⌝ }
+{
+    match a {
+        LevelsAnswer::Written(n) => given(n as u64, 0, 0),
+        LevelsAnswer::Refused(e) => refusal(e),
     }
 }
 

@@ -1,3 +1,5 @@
 pub mod Calls
 pub mod Search
+pub mod Levels
 pub mod Inside
+pub mod Listing

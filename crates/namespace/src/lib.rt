@@ -1,17 +1,20 @@
 // The namespace: the tree of levels, bindings and objects in lent words, with its edits, lookup and search (namespace.rs).
 ghost use mathlib.Core.Path.{_≡_};
 ghost use Prim.Native.Nat.{_+_};
+ghost use lib.ListN.{length};
 ghost use Rattle.name_object.specs.Component.{componentLimit};
 ghost use Rattle.name_object.specs.Memory.{told};
 ghost use Rattle.table.specs.Limits.{limits};
 ghost use Rattle.namespace.specs.Search.{searchTold, searchCall, levelTold, levelCall};
 ghost use Rattle.table.specs.Memory.{left};
 ghost use Rattle.namespace.specs.Calls.{newCall, addLevelCall, removeLevelCall, addValueCall, addValueResolvedCall, addAliasCall, getCall, setCall, getHandleCall, getByPathCall, setByPathCall, editLeft, valueSaid, handleSaid, handleLeft};
+ghost use Rattle.namespace.specs.Levels.{levelsCall, filled, listLeft};
 use name_object::AmlName;
 use path::PathSaid;
 use pkg_length::AmlError;
 
 mod inner;
+pub mod listing;
 
 pub enum LevelType {
     Scope,
@@ -68,6 +71,19 @@ pub enum LevelSaid {
 pub struct LevelAnswer {
     pub name: AmlName,
     pub said: LevelSaid,
+}
+
+// A level in a list: its depth, the root's being 0, its type, and its segment, four zero bytes for the root.
+pub struct LevelRecord {
+    pub depth: usize,
+    pub typ: LevelType,
+    pub segment: [u8; 4],
+}
+
+// How many records were written.
+pub enum LevelsAnswer {
+    Written(usize),
+    Refused(AmlError),
 }
 
 // Writes a fresh table: the root, and nothing else.
@@ -257,4 +273,20 @@ pub fn search_for_level(table: &[u64], level_name: AmlName, starting_scope: AmlN
     } else {
         inner::no_level(AmlError::BadTable)
     }
+}
+
+// Writes the levels from a starting level down into a lent list, a level before those below it and siblings in byte order. A list that is too short is refused with the
+// number needed, and stays as it is; records beyond those written keep their contents.
+pub fn levels(table: &[u64], path: AmlName, list: &mut [LevelRecord]) -> LevelsAnswer
+    ensures { λ r. ⌜ listLeft (now (list .exit)) r ≡ filled (now (list .entry)) (levelsCall limits (now (table .entry)) path (length (now (list .entry)))) ⌝ }
+{
+    let found = listing::start(table, path, list.len());
+    let n = found.count;
+    let at = found.at;
+    let mut i = 0;
+    while i < n {
+        list[i] = listing::record(table, at + i);
+        i += 1;
+    }
+    found.said
 }

@@ -118,7 +118,7 @@ pub fn as_string(name: AmlName, out: &mut [u8]) -> TextAnswer
             text::write_text(out, &name.bytes, count);
             return TextAnswer::Length(n);
         }
-        return TextAnswer::Refused(AmlError::OutTooSmall);
+        return TextAnswer::Refused(AmlError::OutTooSmall(0));
     }
     TextAnswer::Refused(AmlError::BadPath)
 }

@@ -49,7 +49,7 @@ caseOf n p =
     (cond (eqb n 13) RootNotAllowed (cond (eqb n 14) TriedToRemoveRootNamespace (cond (eqb n 15) (LevelDoesNotExist p)
     (cond (eqb n 16) ValueDoesNotExist (cond (eqb n 17) NameCollision (cond (eqb n 18) LevelsFull (cond (eqb n 19) BindingsFull
     (cond (eqb n 20) ObjectsFull (cond (eqb n 21) NoSuchHandle (cond (eqb n 22) BudgetSpent (cond (eqb n 23) (Unset p) (cond (eqb n 24) BadTable
-    (cond (eqb n 25) OutTooSmall (cond (eqb n 26) BadPath (cond (eqb n 27) TableTooShort (cond (eqb n 28) BadSignature
+    (cond (eqb n 25) (OutTooSmall p) (cond (eqb n 26) BadPath (cond (eqb n 27) TableTooShort (cond (eqb n 28) BadSignature
     (cond (eqb n 29) BadTableLength (cond (eqb n 30) BadChecksum (PackageEndsEarly p))))))))))))))))))))))))))))))
 
 pub case-is : (e : AmlError) → caseOf (paper e .0) (paper e .1) ≡ e
@@ -78,7 +78,7 @@ case-is NoSuchHandle = refl
 case-is BudgetSpent = refl
 case-is (Unset p) = refl
 case-is BadTable = refl
-case-is OutTooSmall = refl
+case-is (OutTooSmall p) = refl
 case-is BadPath = refl
 case-is TableTooShort = refl
 case-is BadSignature = refl

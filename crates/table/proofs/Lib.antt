@@ -30,3 +30,5 @@ pub mod NearWords
 pub mod NearLevels
 pub mod Laws
 pub mod Frames
+pub mod Listing
+pub mod LevelList

@@ -11,13 +11,11 @@ use Rattle.pkg_length.proofs.Answers.{halves}
 use Rattle.name_object.proofs.Paths.{seg-chars}
 use Rattle.name_object.specs.Component.{Component, seg, leadOk, digitOk, charOk, segOk}
 use Rattle.table.specs.Tree.{charNumber, number}
+use Rattle.table.specs.Levels.{charOf}
 use Rattle.table.specs.Valid.{segmentOk}
 use Rattle.table.proofs.Facts.{lt-or-le}
 
--- the character of a number, and a segment's four
-unfoldable pub charOf : ℕ → ℕ
-charOf n = cond (ltb n 10) (n + 0x30) (cond (ltb n 36) (n + 0x37) 0x5F)
-
+-- a segment of a number
 unfoldable pub segmentOf : ℕ → Component
 segmentOf s = seg (charOf (s / 37 / 37 / 37)) (charOf (s / 37 / 37 % 37)) (charOf (s / 37 % 37)) (charOf (s % 37))
 

@@ -221,6 +221,13 @@ module _ (m : Limits) (t : Tree) (w : Whole m t) (p : List ℕ) (j : ℕ) (f : F
   pub from-to : counts (take j ls) ≤ counts (take (subtreeEnd ls j) ls)
   from-to = omega (arith, from-is, to-is)
 
+  -- the run of words of the level and everything below it
+  pub level-run : take (subtreeEnd ls j - j) (drop j ls) ≡ pack (f .rank) (f .typ) (length (f .b)) (f .seg) ∷ flat (suc (f .rank)) (f .kids)
+  unfolding M node
+  level-run =
+      ap (λ (x : List ℕ). take (subtreeEnd ls j - j) x) (ap (drop j) level-runs ∙ drop-at A (M ++ (C ++ replicate z 0)) j (sym at-is))
+      ∙ take-at M (C ++ replicate z 0) (subtreeEnd ls j - j) (omega (arith, end-is, at-is))
+
   -- what is left
   left-levels : flat 1 (alter without (t .levels) p) ≡ A ++ C
   unfolding A C without

@@ -5,4 +5,5 @@ pub mod Valid
 pub mod Memory
 pub mod Edits
 pub mod Search
+pub mod Levels
 pub mod Inside

@@ -58,8 +58,8 @@ pub enum Error {
     Unset(usize),
     /// 24: the table's memory is not well-formed.
     BadTable,
-    /// 25: the text, or the table, does not fit.
-    OutTooSmall,
+    /// 25: the text, the table or the list of levels does not fit; of levels, how many there are, else 0.
+    OutTooSmall(usize),
     /// 26: memory holds no path.
     BadPath,
     /// 27: a whole table has fewer than 36 bytes.
@@ -108,7 +108,7 @@ impl Error {
             22 => Error::BudgetSpent,
             23 => Error::Unset(place),
             24 => Error::BadTable,
-            25 => Error::OutTooSmall,
+            25 => Error::OutTooSmall(place),
             26 => Error::BadPath,
             27 => Error::TableTooShort,
             28 => Error::BadSignature,
@@ -148,7 +148,7 @@ impl Error {
             Error::BudgetSpent => 22,
             Error::Unset(_) => 23,
             Error::BadTable => 24,
-            Error::OutTooSmall => 25,
+            Error::OutTooSmall(_) => 25,
             Error::BadPath => 26,
             Error::TableTooShort => 27,
             Error::BadSignature => 28,
@@ -173,6 +173,7 @@ impl Error {
             | Error::LevelDoesNotExist(place)
             | Error::Unset(place)
             | Error::PackageEndsEarly(place)
+            | Error::OutTooSmall(place)
             | Error::BadCell(place) => place,
             _ => 0,
         }
@@ -206,7 +207,7 @@ impl Error {
             Error::BudgetSpent => "BudgetSpent",
             Error::Unset(_) => "Unset",
             Error::BadTable => "BadTable",
-            Error::OutTooSmall => "OutTooSmall",
+            Error::OutTooSmall(_) => "OutTooSmall",
             Error::BadPath => "BadPath",
             Error::TableTooShort => "TableTooShort",
             Error::BadSignature => "BadSignature",

@@ -44,7 +44,7 @@ pub use error::Error;
 pub use header::{write_table, Header, Signature};
 pub use path::{is_digit_char, is_lead_name_char, is_name_char, name_string, Component, Path, Text};
 pub use pkg::{pkg_length, raw_pkg_length, PkgLength};
-pub use table::{Found, FoundLevel, Handle, LevelType, Table};
+pub use table::{Found, FoundLevel, Handle, Level, LevelType, Levels, Table};
 
 // The page's code is a test.
 #[cfg(doctest)]

@@ -73,6 +73,64 @@ pub struct FoundLevel {
     pub asked: usize,
 }
 
+/// A level of a table.
+#[derive(Clone, Copy, PartialEq, Eq, Hash, Debug)]
+pub struct Level {
+    /// How many levels stand around it; the root's depth is 0.
+    pub depth: usize,
+    /// What it is.
+    pub typ: LevelType,
+    /// Its segment; four zero bytes for the root.
+    pub segment: [u8; 4],
+}
+
+// The levels of a table, the root counted.
+const LEVELS: usize = 128;
+
+/// The levels that [`Table::levels`] lists, as they stood then.
+#[derive(Clone)]
+pub struct Levels {
+    words: [u64; LEVELS],
+    next: usize,
+    count: usize,
+}
+
+impl Iterator for Levels {
+    type Item = Level;
+
+    #[inline]
+    fn next(&mut self) -> Option<Level> {
+        if self.next >= self.count {
+            return None;
+        }
+        let [a, b, c, d, typ, depth @ ..] = self.words.get(self.next)?.to_le_bytes();
+        self.next = self.next.wrapping_add(1);
+        let [low, middle, high] = depth;
+        Some(Level {
+            depth: usize::from(u16::from_le_bytes([low, middle])) | usize::from(high) << 16,
+            typ: LevelType::try_from(u64::from(typ)).unwrap_or(LevelType::MethodLocals),
+            segment: [a, b, c, d],
+        })
+    }
+
+    #[inline]
+    fn size_hint(&self) -> (usize, Option<usize>) {
+        let left = self.count.saturating_sub(self.next);
+        (left, Some(left))
+    }
+}
+
+impl ExactSizeIterator for Levels {}
+
+impl core::iter::FusedIterator for Levels {}
+
+impl fmt::Debug for Levels {
+    /// The levels that are still to come.
+    fn fmt(&self, f: &mut fmt::Formatter<'_>) -> fmt::Result {
+        f.debug_list().entries(self.clone()).finish()
+    }
+}
+
 /// A namespace in 1,153 words of memory: levels, values, aliases, lookup and search.
 ///
 /// `M` is where the words are: `[u64; 1153]` (the default: the table owns them, and [`Table::new`] is a constant, for a `static`),
@@ -244,6 +302,22 @@ impl<M: AsRef<[u64]>> Table<M> {
                 |found, [asked, _, _]| found.asked = size(asked),
             )
         }
+    }
+
+    /// The levels from the one at an absolute path down: a level before those below it, siblings in byte order.
+    ///
+    /// # Errors
+    ///
+    /// 24 [`Error::BadTable`], 11 [`Error::NotAbsolute`], 10 [`Error::InvalidNormalizedName`], 15 [`Error::LevelDoesNotExist`].
+    #[inline]
+    pub fn levels(&self, path: &Path) -> Result<Levels, Error> {
+        let t = self.words();
+        let mut levels = Levels { words: [0; LEVELS], next: 0, count: 0 };
+        let list = levels.words.as_mut_ptr();
+        // SAFETY: as above; the list is as long as it is said to be.
+        let [count, _, _] = unsafe { raw::ask(|a| raw::klem_levels(t.as_ptr(), t.len(), path.ptr(), PATH, list, LEVELS, a, RESULT)) }?;
+        levels.count = size(count);
+        Ok(levels)
     }
 }
 

@@ -86,7 +86,7 @@ fn a_call_writes_its_whole_result_or_none_of_it() {
         assert_eq!(number(|p, l| raw::klem_from_str(b"A".as_ptr(), 1, o, PATH, p, l)), 0);
         assert_eq!(refused(|p, l| raw::klem_from_str(n, 0, o, PATH, p, l)), Error::EmptyNamesAreInvalid);
         assert_eq!(number(|p, l| raw::klem_as_string(r, PATH, o, PATH, p, l)), 0);
-        assert_eq!(refused(|p, l| raw::klem_as_string(r, PATH, o, 0, p, l)), Error::OutTooSmall);
+        assert_eq!(refused(|p, l| raw::klem_as_string(r, PATH, o, 0, p, l)), Error::OutTooSmall(0));
         for flag in [raw::klem_is_normal, raw::klem_is_absolute, raw::klem_search_rules_apply] {
             let flag: unsafe extern "C" fn(*const u8, usize, *mut u64, usize) -> u64 = flag;
             assert_eq!(number(|p, l| flag(r, PATH, p, l)), 0);
@@ -126,6 +126,11 @@ fn a_call_writes_its_whole_result_or_none_of_it() {
         assert_eq!(refused(|p, l| raw::klem_search(t, 0, b, PATH, r, PATH, o, PATH, p, l)), Error::BadTable);
         assert_eq!(number(|p, l| raw::klem_search_for_level(t, TABLE, r, PATH, r, PATH, o, PATH, p, l)), 0);
         assert_eq!(refused(|p, l| raw::klem_search_for_level(t, TABLE, b, PATH, r, PATH, o, PATH, p, l)), Error::LevelDoesNotExist(1));
+        let mut list = [7; 2];
+        let q = list.as_mut_ptr();
+        assert_eq!(refused(|p, l| raw::klem_levels(t, TABLE, r, PATH, q, 0, p, l)), Error::OutTooSmall(1));
+        assert_eq!(number(|p, l| raw::klem_levels(t, TABLE, r, PATH, q, 2, p, l)), 0);
+        assert_eq!(list, [0, 7]);
 
         assert_eq!(number(|p, l| raw::klem_check(block.as_ptr(), 3, p, l)), 0);
         assert_eq!(refused(|p, l| raw::klem_check(block.as_ptr(), 2, p, l)), Error::UnexpectedEndOfStream(2));

@@ -1,7 +1,7 @@
 //! Document 01's worked cases, with the answers that it gives, through the archive; the twelve with a P are its proved ones.
 use klem::{
     check, is_digit_char, is_lead_name_char, is_name_char, name_string, pkg_length, raw_pkg_length, run, Component, Ended, Error, Found, FoundLevel,
-    Frame, Handle, LevelType, Path, PkgLength, Run, Table, Width,
+    Frame, Handle, Level, LevelType, Path, PkgLength, Run, Table, Width,
 };
 use klem::{write_table, Header, Signature};
 
@@ -86,7 +86,7 @@ fn paths() {
 
     // writing: at most 159 bytes, and what stands behind the text stays
     let mut out = [b'!'; 7];
-    assert_eq!(p("\\A").write_text(&mut out[..4]), Err(Error::OutTooSmall));
+    assert_eq!(p("\\A").write_text(&mut out[..4]), Err(Error::OutTooSmall(0)));
     assert_eq!(&out, b"!!!!!!!");
     assert_eq!(p("\\A").write_text(&mut out), Ok(5));
     assert_eq!(&out, b"\\A___!!");
@@ -136,6 +136,12 @@ fn the_table() {
     assert_eq!(table.search_for_level(&p("B"), &p("\\A.B.C")), Ok(FoundLevel { path: p("\\A.B"), asked: 3 }));
     assert_eq!(table.search_for_level(&p("Z"), &p("\\A")), Err(Error::LevelDoesNotExist(1)));
     assert_eq!(table.search_for_level(&p("^Z"), &p("A")), Ok(FoundLevel { path: p("^Z"), asked: 0 }));
+    let level = |depth, typ, segment: &[u8; 4]| Level { depth, typ, segment: *segment };
+    let all = [level(0, LevelType::Scope, &[0; 4]), level(1, LevelType::Scope, b"A___"), level(2, LevelType::Device, b"B___")];
+    assert_eq!(table.levels(&p("\\")).map(|l| l.collect::<Vec<_>>()), Ok(all.to_vec()));
+    assert_eq!(table.levels(&p("\\A")).map(|l| (l.len(), l.collect::<Vec<_>>())), Ok((2, all[1..].to_vec())));
+    assert_eq!(table.levels(&p("\\A.Q")).map(|l| l.len()), Err(Error::LevelDoesNotExist(2)));
+    assert_eq!(table.levels(&p("A")).map(|l| l.len()), Err(Error::NotAbsolute));
 
     // a refused edit leaves the memory as it was
     let before = table.clone();
@@ -368,7 +374,7 @@ fn whole_tables() {
 
     let before = table;
     assert_eq!(write_table(*b"dsdt", 7, &rest, &body, &mut table), Err(Error::BadSignature));
-    assert_eq!(write_table(*b"DSDT", 7, &rest, &[0; 29], &mut table), Err(Error::OutTooSmall));
+    assert_eq!(write_table(*b"DSDT", 7, &rest, &[0; 29], &mut table), Err(Error::OutTooSmall(0)));
     assert_eq!(table, before);
     assert_eq!(write_table(*b"DSDT", 7, &rest, &[0; 28], &mut table), Ok(64));
     assert_eq!(Header::read(&table).map(|h| h.body.len()), Ok(28));

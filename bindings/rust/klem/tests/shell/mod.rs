@@ -149,6 +149,31 @@ impl<M: AsRef<[u64]> + AsMut<[u64]>> Shell<M> {
                 let found = self.table.search(&p[0], &p[1])?;
                 Ok(format!("ok {} handle {} asked {}", show(&found.path), found.handle.0, found.asked))
             }
+            b"levels" => {
+                let room = number(w[2])? as usize;
+                if room > MOST_BYTES {
+                    return Err(Stop::Wrong("length over 100000"));
+                }
+                let p = self.paths(&w[1..2])?;
+                let levels = self.table.levels(&p[0])?;
+                if room < levels.len() {
+                    return Err(Error::OutTooSmall(levels.len()).into());
+                }
+                Ok(format!("ok {}{}", levels.len(), levels.map(|l| format!(" {}/{}/{}", l.depth, l.typ as u64, segment(l.segment, "-"))).collect::<String>()))
+            }
+            b"tree" => {
+                let levels = self.table.levels(&Path::root())?;
+                let mut bindings = self.table.words()[128..640].iter();
+                let mut drawn = format!("ok {}", levels.len());
+                for (l, word) in levels.zip(self.table.words()) {
+                    drawn += &format!("\n{:inset$}{} {:?}", "", segment(l.segment, "\\"), l.typ, inset = 2 * l.depth);
+                    for b in bindings.by_ref().take((word >> 32 & 1023) as usize) {
+                        let value = self.table.words()[641 + (b & 0xFFFF_FFFF) as usize];
+                        drawn += &format!("\n{:inset$}{} = {value} handle {}", "", characters(b >> 32), b & 0xFFFF_FFFF, inset = 2 * l.depth + 2);
+                    }
+                }
+                Ok(drawn)
+            }
             _ => {
                 let p = self.paths(&w[1..])?;
                 let found = self.table.search_for_level(&p[0], &p[1])?;
@@ -165,6 +190,18 @@ impl<M: AsRef<[u64]> + AsMut<[u64]>> Shell<M> {
         }
         settled(args)
     }
+}
+
+fn segment(bytes: [u8; 4], root: &str) -> String {
+    if bytes == [0; 4] {
+        return root.into();
+    }
+    String::from_utf8_lossy(&bytes).into()
+}
+
+// A segment's number in base 37 (docs/TABLE.md).
+fn characters(number: u64) -> String {
+    [50653, 1369, 37, 1].iter().map(|d| b"0123456789ABCDEFGHIJKLMNOPQRSTUVWXYZ_"[(number / d % 37) as usize] as char).collect()
 }
 
 fn usages() -> impl Iterator<Item = &'static str> {

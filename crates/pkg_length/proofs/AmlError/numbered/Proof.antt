@@ -16,5 +16,5 @@ numbered-spec =
     (λ c. rw (c .enum-told7 .given .1)) (λ c. rw (c .enum-told8 .given .1)) (λ c. rw (c .before .self7 .given .1)) (λ c. rw (c .enum-told9 .given .1))
     (λ c. rw (c .enum-told10 .given .1)) (λ c. rw (c .enum-told11 .given .1)) (λ c. rw (c .enum-told12 .given .1)) (λ c. rw (c .enum-told13 .given .1))
     (λ c. rw (c .enum-told14 .given .1)) (λ c. rw (c .enum-told15 .given .1)) (λ c. rw (c .before .self8 .given .1)) (λ c. rw (c .enum-told16 .given .1))
-    (λ c. rw (c .enum-told17 .given .1)) (λ c. rw (c .enum-told18 .given .1)) (λ c. rw (c .enum-told19 .given .1)) (λ c. rw (c .enum-told20 .given .1))
-    (λ c. rw (c .enum-told21 .given .1)) (λ c. rw (c .enum-told22 .given .1)) (λ c. rw (c .before .self9 .given .1)))
+    (λ c. rw (c .before .self9 .given .1)) (λ c. rw (c .enum-told17 .given .1)) (λ c. rw (c .enum-told18 .given .1)) (λ c. rw (c .enum-told19 .given .1))
+    (λ c. rw (c .enum-told20 .given .1)) (λ c. rw (c .enum-told21 .given .1)) (λ c. rw (c .before .self10 .given .1)))
