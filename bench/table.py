@@ -6,7 +6,7 @@
   table.py page             fills docs/SPEED.md from docs/speed/*.csv, and draws docs/speed/ratio.svg and growth.svg
 
 A table's name is SET-rustc-VERSION.csv. The page has the sets `nanoseconds`, `before` and, where it is there, `after`; the plots have the last two, by
-the newest compiler.
+the newest compiler. What a call takes beside the test of memory is in the sets `beside-before` and `beside-after`.
 """
 import csv
 import glob
@@ -39,7 +39,9 @@ def keep(path):
     out.writerow(["row", "kind", "calls", "port", "rust"])
     for line in open(path + ".rows"):
         number, _, kind, name = line.rstrip("\n").split(" ", 3)
-        (calls, port), (_, rust) = share(int(number), "port"), share(int(number), "rust")
+        if (int(number), "port") not in found:
+            continue
+        (calls, port), rust = share(int(number), "port"), "" if kind == "alone" else share(int(number), "rust")[1]
         out.writerow([name, kind, calls, port, rust])
 
 
@@ -50,8 +52,10 @@ class Table:
         self.unit = self.about[0].split()[0]
         version = re.search(r"-rustc-([\d.]+)\.csv$", path)
         self.version = version[1] if version else ""
-        self.rows = list(csv.DictReader(l for l in lines if not l.startswith("# ")))
+        rows = list(csv.DictReader(l for l in lines if not l.startswith("# ")))
+        self.rows = [r for r in rows if r["kind"] != "alone"]
         self.of = {r["row"]: (float(r["port"]), float(r["rust"])) for r in self.rows}
+        self.alone = {r["row"]: float(r["port"]) for r in rows if r["kind"] == "alone"}
 
     def ratio(self, row):
         port, rust = self.of[row]
@@ -140,9 +144,33 @@ def instructions():
             yield ""
 
 
+CALLS = {"an exact lookup": "lookup", "a search of a value": "search", "a search of a level": "level search"}
+
+
+def beside_rows(t):
+    """board, the test of memory, and what each call takes beside it"""
+    for name, test in t.alone.items():
+        what, board = name.split(", ", 1)
+        if what == "the test of memory":
+            yield board, test, [t.alone["%s, %s" % (call, board)] - test for call in CALLS]
+
+
+def beside():
+    """before, and after where it is there"""
+    sets = [(n, t) for n in ("before", "after") for t in tables("beside-" + n)[:1]]
+    for name, t in sets:
+        yield "- %s: %s" % (name.capitalize(), "; ".join(t.about))
+    yield ""
+    found = {n: {board: (test, calls) for board, test, calls in beside_rows(t)} for n, t in sets}
+    heads = ["board"] + ["test, " + n for n in found] + ["%s, %s" % (c, n) for c in CALLS.values() for n in found]
+    last = list(found.values())[-1]
+    yield from grid(heads, ([board] + [figure(f[board][0], "instructions") for f in found.values()]
+                            + [figure(f[board][1][i], "instructions") for i in range(len(CALLS)) for f in found.values()] for board in last))
+
+
 def page():
     text = open(PAGE).read()
-    parts = {"instructions": instructions, "nanoseconds": lambda: show(tables("nanoseconds")[0])}
+    parts = {"instructions": instructions, "beside": beside, "nanoseconds": lambda: show(tables("nanoseconds")[0])}
     for name, lines in parts.items():
         start, end = "<!-- %s -->\n" % name, "<!-- end of %s -->\n" % name
         head, rest = text.split(start)
@@ -267,7 +295,10 @@ def short(n):
 
 def main():
     what, paths = sys.argv[1:2], sys.argv[2:]
-    if what == ["keep"] and len(paths) == 1:
+    if what == ["show"] and len(paths) == 1 and Table(paths[0]).alone:
+        t = Table(paths[0])
+        print("\n".join(grid(["board", "test", *CALLS.values()], ([b] + [figure(x, t.unit) for x in [test] + calls] for b, test, calls in beside_rows(t)))))
+    elif what == ["keep"] and len(paths) == 1:
         keep(paths[0])
     elif what == ["show"] and len(paths) == 1:
         print("\n".join(show(Table(paths[0]))))

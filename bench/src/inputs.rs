@@ -126,6 +126,51 @@ pub fn levels_of(n: usize) -> Vec<String> {
     levels
 }
 
+/// The boards on which a call is measured beside the test of memory: how each is called, its levels, and its values' paths.
+pub fn boards() -> Vec<(String, Vec<String>, Vec<String>)> {
+    let four = |levels: Vec<String>| {
+        let values = board_values(&levels).into_iter().map(|(p, _)| p).collect::<Vec<_>>();
+        (levels, values)
+    };
+    let mut boards: Vec<(String, (Vec<String>, Vec<String>))> = [8, 32, 128].map(|n| (format!("{n} levels"), four(levels_of(n)))).to_vec();
+    let chain = levels_of(7);
+    let mut many: Vec<String> = chain.iter().enumerate().map(|(i, l)| format!("{l}.{}", own(i))).collect();
+    many.extend((0..512 - many.len()).map(|i| format!("\\_SB_.W{i:03}")));
+    boards.push(("512 values, 507 of them in one level".into(), (chain, many)));
+    boards.push(("100 levels below the root, a board".into(), four(board_levels())));
+    boards.push(("127 levels under one".into(), four((0..127).map(|i| format!("\\D{i:03}")).collect())));
+    let mut scope = String::from("\\");
+    let deep: Vec<String> = (0..31)
+        .map(|i| {
+            scope += &format!("{}C{i:03}", if i == 0 { "" } else { "." });
+            scope.clone()
+        })
+        .collect();
+    // a level of 32 components holds no value
+    let values = four(deep[..30].to_vec()).1;
+    boards.push(("a chain of 31".into(), (deep, values)));
+    boards.into_iter().map(|(title, (levels, values))| (title, levels, values)).collect()
+}
+
+/// Bare segments that are bound at levels around the longest of them, each somewhere else.
+pub fn sought(levels: &[String], values: &[String]) -> Vec<String> {
+    let scope = levels.iter().max_by_key(|l| l.len()).unwrap();
+    let mut names: Vec<String> = values
+        .iter()
+        .filter_map(|v| v.rsplit_once('.'))
+        .filter(|(l, s)| s.starts_with('V') && (scope == l || scope.starts_with(&format!("{l}."))))
+        .map(|(_, s)| s.to_string())
+        .collect();
+    names.truncate(31);
+    names
+}
+
+/// The last segments of the longest level and of those around it.
+pub fn sought_levels(levels: &[String]) -> Vec<String> {
+    let scope = levels.iter().max_by_key(|l| l.len()).unwrap();
+    scope[1..].split('.').map(String::from).collect()
+}
+
 /// A block of so many bytes without a loop of many turns: stores, sums, comparisons, an If with its else, a While of one turn.
 pub fn block_of(size: usize) -> Vec<u8> {
     let unit: &[u8] = &[

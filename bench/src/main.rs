@@ -1,6 +1,6 @@
 //! The port and the Rust crate aml 0.16.4 on the same inputs, in one process.
 //!
-//!   klem-bench --list                   the rows: number, calls for a count, `both` or `apart`, name
+//!   klem-bench --list                   the rows: number, calls for a count, `both`, `apart` or `alone`, name
 //!   klem-bench --time ROUNDS            every row timed: row, side, calls, the least nanoseconds of the rounds
 //!   klem-bench --count                  every row, each side with N calls and with 2N, between marks that bench/icount.c counts by
 //!   klem-bench --one ROW SIDE CALLS     CALLS calls of one side (port or rust) of one row, for valgrind
@@ -19,14 +19,34 @@ use std::{
 /// One side of a row: makes that many calls, and says how long they took.
 pub type Side = Box<dyn FnMut(usize) -> Duration>;
 
+/// What a row compares.
+#[derive(Clone, Copy, PartialEq)]
+pub enum Kind {
+    /// The same call on both sides.
+    Both,
+    /// The Rust has no such call and does something else: the row is not counted as ahead or behind.
+    Apart,
+    /// The port alone, for the table of what a call takes beside the test of memory.
+    Alone,
+}
+
+impl Kind {
+    fn name(self) -> &'static str {
+        match self {
+            Kind::Both => "both",
+            Kind::Apart => "apart",
+            Kind::Alone => "alone",
+        }
+    }
+}
+
 pub struct Row {
     pub name: String,
     /// Calls in a round.
     pub calls: usize,
     /// Calls after which the inputs come around again.
     pub inputs: usize,
-    /// The Rust has no such call and does something else: the row is not counted as ahead or behind.
-    pub apart: bool,
+    pub kind: Kind,
     /// Compares the answers of both sides on every input of the row.
     pub same: Box<dyn FnMut() -> Result<usize, String>>,
     pub port: Side,
@@ -85,7 +105,7 @@ fn main() {
         match args[..] {
             ["--list"] => {
                 for (i, row) in rows::rows().iter().enumerate() {
-                    println!("{i} {} {} {}", row.counted_calls(), if row.apart { "apart" } else { "both" }, row.name);
+                    println!("{i} {} {} {}", row.counted_calls(), row.kind.name(), row.name);
                 }
                 0
             }
@@ -99,12 +119,15 @@ fn main() {
                         rust = rust.min((row.rust)(row.calls));
                     }
                     println!("{i} port {} {}", row.calls, port.as_nanos());
-                    println!("{i} rust {} {}", row.calls, rust.as_nanos());
+                    if row.kind != Kind::Alone {
+                        println!("{i} rust {} {}", row.calls, rust.as_nanos());
+                    }
                 })
             }
             ["--count"] => every_row(|i, row| {
                 let n = row.counted_calls();
-                for (name, side) in [("port", &mut row.port), ("rust", &mut row.rust)] {
+                let alone = row.kind == Kind::Alone;
+                for (name, side) in [("port", &mut row.port), ("rust", &mut row.rust)].into_iter().take(if alone { 1 } else { 2 }) {
                     // once unmarked, so that what is done at the first call alone is done
                     side(n);
                     for calls in [n, 2 * n] {

@@ -1,5 +1,5 @@
 //! The rows: for each, the port's call, the Rust's call, and the comparison of their answers.
-use crate::{black_box, inputs, klem_bench_timed as timed, Row};
+use crate::{black_box, inputs, klem_bench_timed as timed, Kind, Row};
 use aml::{
     name_object::name_string,
     namespace::{AmlName, LevelType as AmlLevel, Namespace},
@@ -72,12 +72,13 @@ pub fn rows() -> Vec<Row> {
     rows.push(run("run a loop of 100,000 turns", vec![inputs::turns(100_000)], 1));
     // the Rust has no 32 bits: it runs the same loop in 64, and comes to the same
     let narrow = run_at(Width::Bits32, "run the same loop at 32 bits (the Rust has 64 alone)", vec![inputs::turns(100_000)], 1);
-    rows.push(Row { apart: true, ..narrow });
+    rows.push(Row { kind: Kind::Apart, ..narrow });
     rows.push(six_operators());
     rows.push(run("run short blocks (1 to 16 bytes)", inputs::short_blocks(), 2_400));
     rows.push(refused("run short blocks that both refuse (1 to 16 bytes)", inputs::short_faults(), 2_400));
     rows.push(refused("run a block of 64 KiB that both refuse at its end", vec![inputs::late_fault(65_536)], 1));
     rows.extend([8, 32, 100, 128].map(grown));
+    rows.extend(beside());
     rows
 }
 
@@ -95,7 +96,7 @@ fn reading<P: 'static, R: 'static>(
         name: title.into(),
         calls,
         inputs: port_inputs.len(),
-        apart: false,
+        kind: Kind::Both,
         same: Box::new(same),
         port: Box::new(move |n| timed(&mut || port_inputs.iter().cycle().take(n).for_each(&mut port))),
         rust: Box::new(move |n| timed(&mut || rust_inputs.iter().cycle().take(n).for_each(&mut rust))),
@@ -203,7 +204,7 @@ fn normalised() -> Row {
         name: "normalise".into(),
         calls: 24_000,
         inputs: paths.len(),
-        apart: false,
+        kind: Kind::Both,
         same: Box::new(|| {
             for t in inputs::BENT {
                 equal(
@@ -290,7 +291,7 @@ fn built() -> Row {
         name: "build a namespace of 100 levels and 400 values, an edit".into(),
         calls: 6 * edits,
         inputs: edits,
-        apart: false,
+        kind: Kind::Both,
         same: Box::new(move || same_board(&board)),
         port: Box::new(move |n| {
             timed(&mut || {
@@ -424,6 +425,49 @@ fn grown(n: usize) -> Row {
     searched(&format!("the same search with {n} levels and {} values", 4 * (n - 1)), 3_000, board, (0..6).rev().map(inputs::own).collect())
 }
 
+// What a lookup and the two searches take beside the test of memory: the test alone, and the calls, on the same boards. The port alone.
+fn beside() -> Vec<Row> {
+    let mut rows = vec![];
+    for (title, levels, values) in inputs::boards() {
+        let mut table = Table::new();
+        for l in &levels {
+            table.add_level(&path(l), LevelType::Device).unwrap_or_else(|e| panic!("{l}: {e}"));
+        }
+        for v in &values {
+            table.add_value(&path(v), 7).unwrap_or_else(|e| panic!("{v}: {e}"));
+        }
+        let table = Rc::new(table);
+        let scope = path(levels.iter().max_by_key(|l| l.len()).unwrap());
+        let (sought, found) = (inputs::sought(&levels, &values), inputs::sought_levels(&levels));
+        for n in &sought {
+            table.search(&path(n), &scope).unwrap_or_else(|e| panic!("{title}: {n}: {e}"));
+        }
+        for n in &found {
+            table.search_for_level(&path(n), &scope).unwrap_or_else(|e| panic!("{title}: {n}: {e}"));
+        }
+        let (t, values) = (table.clone(), values.iter().map(|v| path(v)).collect());
+        rows.push(alone(format!("the test of memory, {title}"), vec![path("\\")], move |_| done(t.is_well_formed())));
+        let t = table.clone();
+        rows.push(alone(format!("an exact lookup, {title}"), values, move |p| done(t.get_handle(black_box(p)))));
+        let (t, from) = (table.clone(), scope.clone());
+        rows.push(alone(format!("a search of a value, {title}"), sought.iter().map(|n| path(n)).collect(), move |p| done(t.search(black_box(p), &from))));
+        rows.push(alone(format!("a search of a level, {title}"), found.iter().map(|n| path(n)).collect(), move |p| done(table.search_for_level(black_box(p), &scope))));
+    }
+    rows
+}
+
+fn alone(name: String, inputs: Vec<Path>, mut port: impl FnMut(&Path) + 'static) -> Row {
+    Row {
+        name,
+        calls: 3_000,
+        inputs: inputs.len(),
+        kind: Kind::Alone,
+        same: Box::new(|| Ok(0)),
+        port: Box::new(move |n| timed(&mut || inputs.iter().cycle().take(n).for_each(&mut port))),
+        rust: Box::new(|_| unreachable!("the port alone")),
+    }
+}
+
 type Cells = Vec<Option<u64>>;
 
 fn port_run(width: Width, block: &[u8]) -> (String, Cells) {
@@ -487,7 +531,7 @@ fn six_operators() -> Row {
     let row = reading(title, 1, block(true), block(false), port_runs(Width::Bits64), rust_runs(), || {
         same_run(Width::Bits64, &[inputs::six_operators(10, false)])
     });
-    Row { apart: true, ..row }
+    Row { kind: Kind::Apart, ..row }
 }
 
 fn run_at(width: Width, title: &str, blocks: Vec<Vec<u8>>, calls: usize) -> Row {
@@ -532,5 +576,5 @@ fn checked(kib: usize) -> Row {
             same_run(Width::Bits64, &check)
         },
     );
-    Row { apart: true, ..row }
+    Row { kind: Kind::Apart, ..row }
 }

@@ -19,14 +19,12 @@ use Rattle.table.specs.Edits.{lookUp}
 use Rattle.namespace.specs.Calls.{settled}
 use Rattle.table.specs.Search.{Hit, named, searchUp, levelUp}
 use Rattle.namespace.specs.Search.{firstOf, searchOnce, searchCall, levelCall}
-use Rattle.table.specs.Inside.{nearIn, farthest, nearLevelIn}
+use Rattle.table.specs.Inside.{Deep, deepest, valueHeld, levelHeld, nearestOf, depthOf}
 use Rattle.namespace.specs.Inside.{Settled}
 use Rattle.table.specs.declared.inner.Nearest.{Nearest}
 use Rattle.table.proofs.Objects.{whole, means-formed, means-unformed}
 use Rattle.namespace.proofs.Keys.{settled-kept}
-use Rattle.table.proofs.Near.{Deep, nearF, foundOf, value-search, value-deep}
-use Rattle.table.proofs.NearWords.{nearestOf, near-held}
-use Rattle.table.proofs.NearLevels.{askChild, depthOf, level-held, level-search, level-deep}
+use Rattle.table.proofs.Near.{length-keys, foundOf, value-search, value-deep, level-search, level-deep}
 use Rattle.table.proofs.Whole.{small-handles}
 
 pub same-told : {A : Type 0} {m n : AmlName} {a b : Answer A} → m ≡ n → a ≡ b → _≡_ {A = Told A} (record { memory = m; said = a }) (record { memory = n; said = b })
@@ -39,27 +37,24 @@ module _ (ws : List ℕ) (ok : wellFormed limits ws ≡ true) (scope : AmlName) 
   abbrev ns : List Component
   ns = pathOf scope
 
-  room : length (pathOf scope) ≤ componentLimit
-  room = settled-kept componentLimit scope s .room
-
   -- values
   abbrev near : Answer (Deep ℕ)
-  near = nearF (λ l. Rattle.table.specs.Edits.handleIn (key c) (l .bindings)) (t .levels) (keys ns) 0 (refuses 0 0)
+  near = deepest (valueHeld (take 128 ws) (take 512 (drop 128 ws)) (keys ns) (key c)) (length ns)
 
   search-is : searchUp limits t c ns ≡ named c (λ f. record { handle = f .value; asked = f .asked }) (foundOf ns (length ns) (refuses 16 0) near)
   unfolding searchUp
-  search-is = ap (named c (λ f. record { handle = f .value; asked = f .asked })) (value-search limits t (whole limits (omega arith) ws ok) c ns room)
+  search-is = ap (named c (λ f. record { handle = f .value; asked = f .asked })) (value-search limits (omega arith) ws ok c ns)
 
-  module _ (q : Nearest) (e : q ≡ nearIn (key c) (keys ns) (take 128 ws) (take 512 (drop 128 ws)) 0 0 farthest) where
+  module _ (q : Nearest) (e : q ≡ nearestOf (deepest (valueHeld (take 128 ws) (take 512 (drop 128 ws)) (keys ns) (key c)) (length (keys ns)))) where
     found-is : q ≡ nearestOf near
-    found-is = e ∙ near-held limits (omega arith) ws ok (key c) (keys ns)
+    found-is = e ∙ ap (λ (n : ℕ). nearestOf (deepest (valueHeld (take 128 ws) (take 512 (drop 128 ws)) (keys ns) (key c)) n)) (length-keys ns)
 
     pub up-none : q .depth ≡ 0 → searchUp limits t c ns ≡ refuses 16 0
     up-none z = go near refl
       where
         go : (a : Answer (Deep ℕ)) → near ≡ a → searchUp limits t c ns ≡ refuses 16 0
         go (gives d) h =
-            absurd (omega (arith, value-deep limits t (whole limits (omega arith) ws ok) c ns room d h .0, ap (λ (x : Nearest). x .depth) (found-is ∙ ap nearestOf h)))
+            absurd (omega (arith, value-deep limits (omega arith) ws ok c ns d h .0, ap (λ (x : Nearest). x .depth) (found-is ∙ ap nearestOf h)))
         go (refuses n p) h = search-is ∙ ap (λ (a : Answer (Deep ℕ)). named c (λ f. record { handle = f .value; asked = f .asked }) (foundOf ns (length ns) (refuses 16 0) a)) h
 
     module _ (z : q .depth ≡ 0 → ⊥) where
@@ -78,7 +73,7 @@ module _ (ws : List ℕ) (ok : wellFormed limits ws ≡ true) (scope : AmlName) 
 
       pub up-range : (q .depth ≤ scope .count) × (q .depth < componentLimit) × (q .handle < 2 ^ 32)
       up-range =
-          let r = value-deep limits t (whole limits (omega arith) ws ok) c ns room (given .0) (given .1) in
+          let r = value-deep limits (omega arith) ws ok c ns (given .0) (given .1) in
           omega (arith, r .1, r .2, small-handles limits t (whole limits (omega arith) ws ok) (omega arith) (given .0 .value) (r .3), depth-is, handle-is, length-path scope)
 
       pub up-found : (name : AmlName) → name ≡ nameOf componentLimit (take (q .depth) ns ++ (c ∷ []))
@@ -90,21 +85,21 @@ module _ (ws : List ℕ) (ok : wellFormed limits ws ≡ true) (scope : AmlName) 
 
   -- levels
   abbrev nearLevel : Answer (Deep (Unit {0}))
-  nearLevel = nearF (askChild (key c)) (t .levels) (keys ns) 0 (refuses 0 0)
+  nearLevel = deepest (levelHeld (take 128 ws) (keys ns) (key c)) (length ns)
 
   level-is : levelUp limits t c ns ≡ named c (λ f. f .asked) (foundOf ns (length ns) (refuses 15 1) nearLevel)
   unfolding levelUp
-  level-is = ap (named c (λ f. f .asked)) (level-search limits t (whole limits (omega arith) ws ok) c ns room)
+  level-is = ap (named c (λ f. f .asked)) (level-search limits (omega arith) ws ok c ns)
 
-  module _ (k : ℕ) (e : k ≡ nearLevelIn (key c) (keys ns) (take 128 ws) 0 0) where
+  module _ (k : ℕ) (e : k ≡ depthOf (deepest (levelHeld (take 128 ws) (keys ns) (key c)) (length (keys ns)))) where
     depth-found : k ≡ depthOf nearLevel
-    depth-found = e ∙ level-held limits (omega arith) ws ok (key c) (keys ns)
+    depth-found = e ∙ ap (λ (n : ℕ). depthOf (deepest (levelHeld (take 128 ws) (keys ns) (key c)) n)) (length-keys ns)
 
     pub level-none : k ≡ 0 → levelUp limits t c ns ≡ refuses 15 1
     level-none z = go nearLevel refl
       where
         go : (a : Answer (Deep (Unit {0}))) → nearLevel ≡ a → levelUp limits t c ns ≡ refuses 15 1
-        go (gives d) h = absurd (omega (arith, level-deep limits t (whole limits (omega arith) ws ok) c ns room d h .0, depth-found ∙ ap depthOf h))
+        go (gives d) h = absurd (omega (arith, level-deep limits (omega arith) ws ok c ns d h .0, depth-found ∙ ap depthOf h))
         go (refuses n p) h = level-is ∙ ap (λ (a : Answer (Deep (Unit {0}))). named c (λ f. f .asked) (foundOf ns (length ns) (refuses 15 1) a)) h
 
     module _ (z : k ≡ 0 → ⊥) where
@@ -120,7 +115,7 @@ module _ (ws : List ℕ) (ok : wellFormed limits ws ≡ true) (scope : AmlName) 
 
       pub level-range : (k ≤ scope .count) × (k < componentLimit)
       level-range =
-          let r = level-deep limits t (whole limits (omega arith) ws ok) c ns room (held .0) (held .1) in
+          let r = level-deep limits (omega arith) ws ok c ns (held .0) (held .1) in
           omega (arith, r .1, r .2, depth-same, length-path scope)
 
       pub level-found : (name : AmlName) → name ≡ nameOf componentLimit (take k ns ++ (c ∷ []))

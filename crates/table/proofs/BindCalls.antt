@@ -2,30 +2,35 @@
 use mathlib.Core.Path.{_≡_, refl, ap, ap₂, sym, subst, _∙_}
 use mathlib.Core.Bool.{Bool, true, false, cond}
 use mathlib.Core.Logic.{_⊎_, inl, inr, ⊎-elim}
-use mathlib.Core.List.{List, map}
+use mathlib.Core.List.{List, [], _∷_, map}
 use Prim.Native.Nat.{ℕ, suc, _+_, _-_, _<_, _≤_, _^_}
 use native.Mathlib.Omega.{arith}
 use lib.Dec.{leb}
-use lib.ListN.{length, take, drop, replicate, length-drop}
+use lib.ListN.{length, take, drop, getD, replicate, length-drop}
 use lib.Seq.{length-take-le}
 use borrow.Author.Tests.{lt-leb, le-leb, leb-true, leb-false}
 use Rattle.pkg_length.specs.Refusal.{gives, refuses, refused}
 use Rattle.pkg_length.specs.declared.AmlError.{AmlError}
 use Rattle.table.specs.Limits.{Limits}
 use Rattle.table.specs.Tree.{Binding, Tree, bound, isLive}
-use Rattle.table.specs.Layout.{flat, bindWord}
+use Rattle.table.specs.Layout.{countOf, bindingOf, flat, bindWord}
+use Rattle.table.specs.Valid.{rising}
 use Rattle.table.specs.Memory.{wellFormed, decode}
 use Rattle.table.specs.Edits.{levelAt, alter, scopeOf, lastOf, handleIn, isBound, withBinding, withLevels, lookUp, bind}
-use Rattle.table.specs.Inside.{Sought, here, before, missing, counts, slotIn, slotSpot, spotFrom, spotIn, BindingsHeld}
+use Rattle.table.specs.Inside.{Sought, here, before, missing, counts, seekIn, slotIn, bindingsAt, slotSpot, spotFrom, spotIn, Rising, BindingsHeld}
 use Rattle.table.specs.declared.inner.Slot.{Slot}
 use Rattle.table.specs.declared.inner.Spot.{Spot}
 use Rattle.table.proofs.Seek.{seekF, lacking, lacks}
 use Rattle.table.proofs.Focus.{Focus, focus, counts-append, counts-flat}
 use Rattle.table.proofs.Objects.{whole, long}
 use Rattle.table.proofs.Held.{Split, split-last, seek-held, levels-are, bindings-are}
-use Rattle.table.proofs.Slots.{FreeAt, slot-bound, slot-live, slot-free}
+use Rattle.table.proofs.Slots.{FreeAt, slot-bound, slot-live, slot-free, slots-rise}
 use Rattle.table.proofs.Bind.{bindings-at}
 use Rattle.table.proofs.Spots.{counted, counts-spare}
+
+at-words : (ls bs : List ℕ) (k : ℕ) → bindingsAt ls bs k ≡ map bindingOf (take (countOf (getD ls k 0)) (drop (counts (take k ls)) bs))
+unfolding bindingsAt
+at-words ls bs k = refl
 
 not-refused : {T : Type 0} {e : AmlError} (k : ℕ) (q : Slot) → slotSpot k q ≡ Spot.Refused e → T
 not-refused k (Slot.Bound h) d = absurd (let z : _≡_ {A = ℕ} 0 1 = cc in omega arith)
@@ -66,7 +71,7 @@ module _ (m : Limits) (hm : m .objects ≤ 2 ^ 32) (ws : List ℕ) (ok : wellFor
 
   -- the bindings that the records count are there
   pub bindings-held : BindingsHeld (take (m .levels) ws) (take (m .bindings) (drop (m .levels) ws))
-  bindings-held k = omega (arith, counted ls k, total, length-bs, whole m hm ws ok .bindings)
+  bindings-held = record { held = held; rise = rise }
     where
       total : counts ls ≡ length (bound (t .levels))
       total =
@@ -75,6 +80,21 @@ module _ (m : Limits) (hm : m .objects ≤ 2 ^ 32) (ws : List ℕ) (ok : wellFor
         where
           plus : (n : ℕ) → n + 0 ≡ n
           plus n = omega arith
+
+      held : (k : ℕ) → counts (take k ls) + countOf (getD ls k 0) ≤ length bs
+      held k = omega (arith, counted ls k, total, length-bs, whole m hm ws ok .bindings)
+
+      rise : (p : List ℕ) (k : ℕ) → 0 < length p → seekIn p ls 0 0 0 ≡ here k → Rising bs (counts (take k ls)) (countOf (getD ls k 0))
+      rise [] k h e = absurd (omega arith)
+      rise (x ∷ q) k h e =
+          slots-rise (isLive t) bs (counts (take k ls)) (countOf (getD ls k 0)) (held k)
+          ordered
+        where
+          f : Focus (m .components) (isLive t) (t .levels) 0 0 (x ∷ q) 0 k 0
+          f = focus (m .components) (isLive t) (t .levels) 0 0 x q 0 0 k (whole m hm ws ok .forest) (sym (seek-held m hm ws ok (x ∷ q)) ∙ e)
+
+          ordered : rising (isLive t) 0 (map bindingOf (take (countOf (getD ls k 0)) (drop (counts (take k ls)) bs))) ≡ true
+          ordered = rw (sym (at-words ls bs k) ∙ bindings-at m t (whole m hm ws ok) hm ls bs z y (levels-are m hm ws ok) (bindings-are m hm ws ok) (x ∷ q) k f) (f .valid .0 .ordered)
 
   module _ (p : List ℕ) where
     -- the level that the last segment stands in is not there, or there is no such level to ask for

@@ -172,7 +172,7 @@ module _ (limit : ℕ) (live : ℕ → Bool) (s′ t : ℕ) (b : List Binding) (
 here-same : {i j : ℕ} → here i ≡ here j → i ≡ j
 here-same e = cc
 
-gone-not : (p : List ℕ) (r k j : ℕ) → gone p r k ≡ here j → ⊥
+pub gone-not : (p : List ℕ) (r k j : ℕ) → gone p r k ≡ here j → ⊥
 unfolding gone
 gone-not [] r k j e = let z : _≡_ {A = ℕ} 0 1 = cc in omega arith
 gone-not (x ∷ p) r k j e = let z : _≡_ {A = ℕ} 0 1 = cc in omega arith

@@ -19,6 +19,7 @@ pub mod Held
 pub mod AddLevel
 pub mod Remove
 pub mod Passes
+pub mod Child
 pub mod LevelCalls
 pub mod Slots
 pub mod Bind
@@ -26,8 +27,6 @@ pub mod Spots
 pub mod BindCalls
 pub mod BindWords
 pub mod Near
-pub mod NearWords
-pub mod NearLevels
 pub mod Laws
 pub mod Frames
 pub mod Listing

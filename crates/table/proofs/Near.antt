@@ -1,138 +1,38 @@
--- The search over the tree: going down the scope's levels and remembering the last that answers is asking scope after scope outwards.
-use mathlib.Core.Path.{_≡_, refl, ap, ap₂, sym, subst, _∙_}
+-- The search, over words and over the tree: each scope answers alike, so the innermost of the words' scopes is what asking scope after scope outwards finds.
+use mathlib.Core.Path.{_≡_, refl, ap, sym, subst, _∙_}
 use mathlib.Core.Bool.{Bool, true, false, cond}
 use mathlib.Core.List.{List, [], _∷_, _++_}
-use Prim.Native.Nat.{ℕ, zero, suc, _+_, _-_, _<_, _≤_}
+use Prim.Native.Nat.{ℕ, zero, suc, _+_, _-_, _<_, _≤_, _^_}
 use native.Mathlib.Omega.{arith}
-use lib.Dec.{ltb, eqb}
-use lib.ListN.{length, take, length-append}
-use lib.Seq.{take-at, getD-at, length-take-le}
-use borrow.Author.Tests.{lt-leb, le-ltb, ltb-true, ltb-false, eqb-true}
-use Rattle.pkg_length.proofs.Answers.{gives-same}
+use native.Mathlib.Numerals.{add-one}
+use lib.Dec.{leb, ltb, eqb}
+use lib.ListN.{length, take, drop, length-append}
+use lib.Seq.{length-take-le}
+use borrow.Author.Tests.{le-ltb, lt-ltb, ltb-true, ltb-false, eqb-true}
+use Rattle.pkg_length.proofs.Answers.{refuses-not, gives-same}
 use Rattle.pkg_length.specs.Refusal.{Answer, gives, refuses, andThen}
 use Rattle.name_object.specs.Component.{Component}
 use Rattle.table.specs.Limits.{Limits}
 use Rattle.table.specs.Tree.{Binding, Forest, none, level, Tree, Level, key, keys, isLive}
 use Rattle.table.specs.Valid.{rising}
+use Rattle.table.specs.Memory.{wellFormed, decode}
 use Rattle.table.specs.Edits.{reached, levelAt, scopeOf, lastOf, handleIn, lookUp}
-use Rattle.table.specs.Search.{Found, orOn, outward, valueIn}
+use Rattle.table.specs.Search.{Found, orOn, outward, valueIn, levelIn}
+use Rattle.table.specs.Inside.{Sought, here, before, missing, spotIn, Deep, closer, deepest, spotted, seen, valueHeld, levelHeld}
+use Rattle.table.specs.declared.inner.Spot.{Spot}
+use Rattle.table.proofs.Facts.{suc-plus, zero-plus}
 use Rattle.table.proofs.Shape.{Valid, level-tests, binding-tests, LevelFit}
 use Rattle.table.proofs.Whole.{Whole}
-use native.Mathlib.Numerals.{add-one}
-use Rattle.table.proofs.Facts.{suc-plus, zero-plus}
+use Rattle.table.proofs.Seek.{seekF, lacking, lacks}
+use Rattle.table.proofs.Focus.{focus}
+use Rattle.table.proofs.Objects.{whole}
+use Rattle.table.proofs.Held.{seek-held}
+use Rattle.table.proofs.BindCalls.{spot-refused, spot-bound, spot-live, spot-open}
 
 pub length-keys : (cs : List Component) → length (keys cs) ≡ length cs
 unfolding keys
 length-keys [] = refl
 length-keys (c ∷ cs) = ap suc (length-keys cs)
-
--- what was found, and how many components its scope has
-pub record Deep (A : Type 0) : Type 0 where
-  pub depth : ℕ
-  pub value : A
-
--- a level of the scope that answers is nearer than what was found before
-abbrev pub closer : {A : Type 0} → ℕ → Answer A → Answer (Deep A) → Answer (Deep A)
-closer r (gives a) out = gives (record { depth = r; value = a })
-closer r (refuses n p) out = out
-
--- down the keys of the scope, r of them behind
-unfoldable pub nearF : {A : Type 0} → (Level → Answer A) → Forest → List ℕ → ℕ → Answer (Deep A) → Answer (Deep A)
-nearF ask none p r out = out
-nearF ask (level s′ t b kids next) [] r out = out
-nearF ask (level s′ t b kids next) (x ∷ p) r out =
-    cond (eqb s′ x) (nearF ask kids p (suc r) (closer (suc r) (ask (record { segment = s′; typ = t; bindings = b; children = kids })) out)) (nearF ask next (x ∷ p) r out)
-
--- the innermost of the first n scopes that answers
-unfoldable pub best : {A : Type 0} → (Level → Answer A) → Forest → List ℕ → ℕ → Answer (Deep A) → ℕ → Answer (Deep A)
-best ask f p r out zero = out
-best ask f p r out (suc n) = closer (r + suc n) (andThen (levelAt r f (take (suc n) p)) ask) (best ask f p r out n)
-
-module _ {A : Type 0} (ask : Level → Answer A) where
-  best-none : (p : List ℕ) (r : ℕ) (out : Answer (Deep A)) (n : ℕ) → best ask none p r out n ≡ out
-  unfolding best levelAt
-  best-none p r out zero = refl
-  best-none p r out (suc n) = best-none p r out n
-
-  module _ (s′ t : ℕ) (b : List Binding) (kids next : Forest) (x : ℕ) where
-    best-match : (p : List ℕ) (r : ℕ) (out : Answer (Deep A)) (n : ℕ) → eqb s′ x ≡ true → n ≤ length p
-        → best ask (level s′ t b kids next) (x ∷ p) r out (suc n) ≡ best ask kids p (suc r) (closer (suc r) (ask (record { segment = s′; typ = t; bindings = b; children = kids })) out) n
-    unfolding best levelAt
-    best-match p r out zero e l = rw e (ap (λ (k : ℕ). closer k (ask (record { segment = s′; typ = t; bindings = b; children = kids })) out) (one r))
-      where
-        one : (r : ℕ) → r + 1 ≡ suc r
-        one r = omega arith
-    best-match [] r out (suc n) e l = absurd (omega arith)
-    best-match (y ∷ p) r out (suc n) e l =
-        λ i. closer (more r n i) (andThen (inner (take n p) i) ask) (best-match (y ∷ p) r out n e (omega arith) i)
-      where
-        more : (r n : ℕ) → r + suc (suc n) ≡ suc r + suc n
-        more r n = omega arith
-
-        inner : (q : List ℕ) → levelAt r (level s′ t b kids next) (x ∷ y ∷ q) ≡ levelAt (suc r) kids (y ∷ q)
-        inner q = rw e
-
-    best-skip : (p : List ℕ) (r : ℕ) (out : Answer (Deep A)) (n : ℕ) → eqb s′ x ≡ false → best ask (level s′ t b kids next) (x ∷ p) r out n ≡ best ask next (x ∷ p) r out n
-    unfolding best
-    best-skip p r out zero e = refl
-    best-skip p r out (suc n) e = ap₂ (λ (a : Answer Level) (o : Answer (Deep A)). closer (r + suc n) (andThen a ask) o) (skipped (take n p)) (best-skip p r out n e)
-      where
-        skipped : (q : List ℕ) → levelAt r (level s′ t b kids next) (x ∷ q) ≡ levelAt r next (x ∷ q)
-        skipped [] = unfold levelAt in rw e
-        skipped (y ∷ q) = unfold levelAt in rw e
-
-  near-best : (f : Forest) (p : List ℕ) (r : ℕ) (out : Answer (Deep A)) → nearF ask f p r out ≡ best ask f p r out (length p)
-  unfolding nearF
-  near-best none p r out = sym (best-none p r out (length p))
-  near-best (level s′ t b kids next) [] r out = unfold best in refl
-  near-best (level s′ t b kids next) (x ∷ p) r out =
-      go (eqb s′ x) refl (near-best kids p (suc r) (closer (suc r) (ask (record { segment = s′; typ = t; bindings = b; children = kids })) out)) (near-best next (x ∷ p) r out)
-    where
-      go : (e : Bool) → eqb s′ x ≡ e
-          → nearF ask kids p (suc r) (closer (suc r) (ask (record { segment = s′; typ = t; bindings = b; children = kids })) out) ≡ best ask kids p (suc r) (closer (suc r) (ask (record { segment = s′; typ = t; bindings = b; children = kids })) out) (length p)
-          → nearF ask next (x ∷ p) r out ≡ best ask next (x ∷ p) r out (suc (length p))
-          → cond e (nearF ask kids p (suc r) (closer (suc r) (ask (record { segment = s′; typ = t; bindings = b; children = kids })) out)) (nearF ask next (x ∷ p) r out) ≡ best ask (level s′ t b kids next) (x ∷ p) r out (suc (length p))
-      go true e i l = i ∙ sym (best-match s′ t b kids next x p r out (length p) e (omega arith))
-      go false e i l = l ∙ sym (best-skip s′ t b kids next x p r out (suc (length p)) e)
-
-  -- what is found was given by a level of the scope
-  pub record Hold (f : Forest) (p : List ℕ) (r : ℕ) (d : Deep A) (n : ℕ) : Type 0 where
-    pub level : Level
-    pub at : levelAt r f (take (d .depth - r) p) ≡ gives level
-    pub gave : ask level ≡ gives (d .value)
-    pub far : r < d .depth
-    pub near : d .depth ≤ r + n
-
-  best-hold : (f : Forest) (p : List ℕ) (r n : ℕ) (d : Deep A) → best ask f p r (refuses 0 0) n ≡ gives d → Hold f p r d n
-  unfolding best
-  best-hold f p r zero d e = absurd (let z : _≡_ {A = ℕ} 0 1 = cc in omega arith)
-  best-hold f p r (suc n) d e = go (levelAt r f (take (suc n) p)) refl (best-hold f p r n d) e
-    where
-      wider : Hold f p r d n → Hold f p r d (suc n)
-      wider h = record { level = h .level; at = h .at; gave = h .gave; far = h .far; near = omega (arith, h .near) }
-
-      asked : (l : Level) (a : Answer A) → levelAt r f (take (suc n) p) ≡ gives l → ask l ≡ a → (best ask f p r (refuses 0 0) n ≡ gives d → Hold f p r d n)
-          → closer (r + suc n) a (best ask f p r (refuses 0 0) n) ≡ gives d → Hold f p r d (suc n)
-      asked l (gives v) x y i e =
-          let q : r + suc n ≡ d .depth = ap (λ (y : Answer (Deep A)). depthIn y) e in
-          let u : v ≡ d .value = cc in
-          record { level = l; at = ap (λ (k : ℕ). levelAt r f (take k p)) (less r (suc n) (d .depth) q) ∙ x; gave = y ∙ ap gives u; far = omega arith; near = omega arith }
-        where
-          depthIn : Answer (Deep A) → ℕ
-          depthIn (gives w) = w .depth
-          depthIn (refuses a b) = 0
-
-          less : (r n k : ℕ) → r + n ≡ k → k - r ≡ n
-          less r n k h = omega arith
-      asked l (refuses a b) x y i e = wider (i e)
-
-      go : (a : Answer Level) → levelAt r f (take (suc n) p) ≡ a → (best ask f p r (refuses 0 0) n ≡ gives d → Hold f p r d n)
-          → closer (r + suc n) (andThen a ask) (best ask f p r (refuses 0 0) n) ≡ gives d → Hold f p r d (suc n)
-      go (gives l) x i e = asked l (ask l) x refl i e
-      go (refuses a b) x i e = wider (i e)
-
-  pub near-hold : (f : Forest) (p : List ℕ) (d : Deep A) → nearF ask f p 0 (refuses 0 0) ≡ gives d → Hold f p 0 d (length p)
-  near-hold f p d e = best-hold f p 0 (length p) d (sym (near-best f p 0 (refuses 0 0)) ∙ e)
 
 -- two answers are alike: the same value, or both refuse
 abbrev pub Alike : {A : Type 0} → Answer A → Answer A → Type 0
@@ -150,33 +50,37 @@ abbrev pub foundOf : {A : Type 0} → List Component → ℕ → Answer (Found A
 foundOf ns total otherwise (gives d) = gives (record { scope = take (d .depth) ns; value = d .value; asked = total - d .depth + 1 })
 foundOf ns total otherwise (refuses n p) = otherwise
 
-module _ {A : Type 0} (asks : List Component → Answer A) (ask : Level → Answer A) (otherwise : Answer (Found A)) (f : Forest) (ns : List Component)
-    (same : (n : ℕ) → 0 < n → n ≤ length ns → Alike (asks (take n ns)) (andThen (levelAt 0 f (take n (keys ns))) ask)) where
-  outward-best : (n k : ℕ) → n ≤ length ns → outward asks otherwise ns n k ≡ foundOf ns (k + n) otherwise (best ask f (keys ns) 0 (refuses 0 0) n)
-  unfolding outward best
-  outward-best zero k l = refl
-  outward-best (suc n) k l = go (asks (take (suc n) ns)) (andThen (levelAt 0 f (take (suc n) (keys ns))) ask) (same (suc n) (omega arith) l) (outward-best n (suc k) (omega arith))
+module _ {A : Type 0} (asks : List Component → Answer A) (found : ℕ → Answer A) (otherwise : Answer (Found A)) (ns : List Component)
+    (same : (n : ℕ) → 0 < n → n ≤ length ns → Alike (asks (take n ns)) (found n)) where
+  outward-deepest : (n k : ℕ) → n ≤ length ns → outward asks otherwise ns n k ≡ foundOf ns (k + n) otherwise (deepest found n)
+  unfolding outward deepest
+  outward-deepest zero k l = refl
+  outward-deepest (suc n) k l = go (asks (take (suc n) ns)) (found (suc n)) (same (suc n) (omega arith) l) (outward-deepest n (suc k) (omega arith))
     where
-      go : (a b : Answer A) → Alike a b → outward asks otherwise ns n (suc k) ≡ foundOf ns (suc k + n) otherwise (best ask f (keys ns) 0 (refuses 0 0) n)
-          → orOn a (take (suc n) ns) (suc k) (outward asks otherwise ns n (suc k)) ≡ foundOf ns (k + suc n) otherwise (closer (0 + suc n) b (best ask f (keys ns) 0 (refuses 0 0) n))
-      go (gives a) (gives b) h i =
-          λ j. gives (record { scope = take (first n j) ns; value = h j; asked = count k n j })
+      go : (a b : Answer A) → Alike a b → outward asks otherwise ns n (suc k) ≡ foundOf ns (suc k + n) otherwise (deepest found n)
+          → orOn a (take (suc n) ns) (suc k) (outward asks otherwise ns n (suc k)) ≡ foundOf ns (k + suc n) otherwise (closer (suc n) b (deepest found n))
+      go (gives a) (gives b) h i = λ j. gives (record { scope = take (suc n) ns; value = h j; asked = count k n j })
         where
-          first : (n : ℕ) → suc n ≡ 0 + suc n
-          first n = omega arith
-
-          count : (k n : ℕ) → suc k ≡ k + suc n - (0 + suc n) + 1
+          count : (k n : ℕ) → suc k ≡ k + suc n - suc n + 1
           count k n = omega arith
       go (gives a) (refuses x y) h i = absurd h
       go (refuses x y) (gives b) h i = absurd h
-      go (refuses x y) (refuses u v) h i = i ∙ ap (λ (m : ℕ). foundOf ns m otherwise (best ask f (keys ns) 0 (refuses 0 0) n)) (suc-plus k n)
+      go (refuses x y) (refuses u v) h i = i ∙ ap (λ (m : ℕ). foundOf ns m otherwise (deepest found n)) (suc-plus k n)
 
-  -- the search is what going down finds
-  pub outward-near : outward asks otherwise ns (length ns) 0 ≡ foundOf ns (length ns) otherwise (nearF ask f (keys ns) 0 (refuses 0 0))
-  outward-near =
-      outward-best (length ns) 0 (omega arith)
-      ∙ ap₂ (λ (n : ℕ) (d : Answer (Deep A)). foundOf ns n otherwise d) (zero-plus (length ns))
-      (ap (best ask f (keys ns) 0 (refuses 0 0)) (sym (length-keys ns)) ∙ sym (near-best ask f (keys ns) 0 (refuses 0 0)))
+  -- the search is the innermost of the scopes, where each answers as the words do
+  pub outward-near : outward asks otherwise ns (length ns) 0 ≡ foundOf ns (length ns) otherwise (deepest found (length ns))
+  outward-near = outward-deepest (length ns) 0 (omega arith) ∙ ap (λ (n : ℕ). foundOf ns n otherwise (deepest found (length ns))) (zero-plus (length ns))
+
+-- what is found was held by a scope
+pub deepest-gave : {A : Type 0} (found : ℕ → Answer A) (n : ℕ) (d : Deep A) → deepest found n ≡ gives d → (0 < d .depth) × (d .depth ≤ n) × (found (d .depth) ≡ gives (d .value))
+unfolding deepest
+deepest-gave found zero d e = refuses-not e
+deepest-gave {A} found (suc n) d e = go (found (suc n)) refl (deepest-gave found n d) e
+  where
+    go : (a : Answer A) → found (suc n) ≡ a → (deepest found n ≡ gives d → (0 < d .depth) × (d .depth ≤ n) × (found (d .depth) ≡ gives (d .value)))
+        → closer (suc n) a (deepest found n) ≡ gives d → (0 < d .depth) × (d .depth ≤ suc n) × (found (d .depth) ≡ gives (d .value))
+    go (gives v) q i e = subst (λ (x : Deep A). (0 < x .depth) × (x .depth ≤ suc n) × (found (x .depth) ≡ gives (x .value))) (gives-same e) (omega arith, omega arith, q)
+    go (refuses x y) q i e = let r = i e in (r .0, omega (arith, r .1), r .2)
 
 -- keys of a scope with a segment behind it
 pub keys-append : (xs ys : List Component) → keys (xs ++ ys) ≡ keys xs ++ keys ys
@@ -221,13 +125,6 @@ module _ (limit : ℕ) (live : ℕ → Bool) where
       empty [] h = refl
       empty (y ∷ b) h = absurd (omega arith)
 
-  pub deep-children : (r : ℕ) (l : Level) → Stands r l → r ≡ limit → l .children ≡ none
-  deep-children r l s h = childless (l .children) (s .kids)
-    where
-      childless : (g : Forest) → Valid limit live (suc r) 0 g → g ≡ none
-      childless none w = refl
-      childless (level s′ t b kids next) w = absurd (omega (arith, w .0 .shallow))
-
 -- what is found was handed out
 pub handle-live : (live : ℕ → Bool) (lo s h : ℕ) (b : List Binding) → rising live lo b ≡ true → handleIn s b ≡ gives h → live h ≡ true
 unfolding handleIn
@@ -240,63 +137,6 @@ handle-live live lo s h (b ∷ bs) r e =
     go true l i e = let d : b .handle ≡ h = cc in rw d at l
     go false l i e = i e
 
--- The deepest level answers nothing, so a scope answers what its level does, and what is found is less deep than a name may be.
-abbrev pub Silent : {A : Type 0} → Answer A → Type 0
-Silent (gives a) = ⊥
-Silent (refuses n p) = Unit {0}
-
-silent-alike : {A : Type 0} (n p : ℕ) (a : Answer A) → Silent a → Alike (refuses n p) a
-silent-alike n p (gives a) h = absurd h
-silent-alike n p (refuses k q) h = tt
-
-silent-not : {A : Type 0} (a : Answer A) (v : A) → Silent a → a ≡ gives v → ⊥
-silent-not (gives a) v h e = h
-silent-not (refuses n p) v h e = let z : _≡_ {A = ℕ} 0 1 = cc in omega arith
-
-module _ (m : Limits) (t : Tree) (w : Whole m t) {A : Type 0} (ask : Level → Answer A)
-    (quiet : (l : Level) → Stands (m .components) (isLive t) (m .components) l → Silent (ask l)) (ns : List Component) (room : length ns ≤ m .components) where
-  stands-at : (n : ℕ) (l : Level) → n ≤ length ns → levelAt 0 (t .levels) (take n (keys ns)) ≡ gives l → Stands (m .components) (isLive t) n l
-  stands-at n l h e =
-      subst (λ (k : ℕ). Stands (m .components) (isLive t) k l) (long (length (take n (keys ns))) n (length-take-le n (keys ns) (omega (arith, length-keys ns))))
-      (level-stands (m .components) (isLive t) (t .levels) 0 0 0 (take n (keys ns)) l (w .forest) e)
-    where
-      long : (k n : ℕ) → k ≡ n → 0 + k ≡ n
-      long k n e = omega arith
-
-  too-deep : (n : ℕ) (l : Level) → n ≤ length ns → m .components ≤ n → levelAt 0 (t .levels) (take n (keys ns)) ≡ gives l → Silent (ask l)
-  too-deep n l h d e = quiet l (subst (λ (k : ℕ). Stands (m .components) (isLive t) k l) (same n (length ns) (m .components) h room d) (stands-at n l h e))
-    where
-      same : (n k c : ℕ) → n ≤ k → k ≤ c → c ≤ n → n ≡ c
-      same n k c x y z = omega arith
-
-  -- a scope of n components, asked by its length
-  pub scope-alike : (n u v : ℕ) (a : Answer A) → n ≤ length ns → (n < m .components → Alike a (andThen (levelAt 0 (t .levels) (take n (keys ns))) ask))
-      → Alike (cond (ltb (length (take n ns)) (m .components)) a (refuses u v)) (andThen (levelAt 0 (t .levels) (take n (keys ns))) ask)
-  scope-alike n u v a h f = rw (length-take-le n ns h) (go (ltb n (m .components)) refl)
-    where
-      silent : m .components ≤ n → (x : Answer Level) → levelAt 0 (t .levels) (take n (keys ns)) ≡ x → Silent (andThen x ask)
-      silent d (gives l) e = too-deep n l h d e
-      silent d (refuses k q) e = tt
-
-      go : (x : Bool) → ltb n (m .components) ≡ x → Alike (cond x a (refuses u v)) (andThen (levelAt 0 (t .levels) (take n (keys ns))) ask)
-      go true e = f (ltb-true n (m .components) e)
-      go false e = silent-alike u v (andThen (levelAt 0 (t .levels) (take n (keys ns))) ask) (silent (ltb-false n (m .components) e) (levelAt 0 (t .levels) (take n (keys ns))) refl)
-
-  pub near-deep : (d : Deep A) → nearF ask (t .levels) (keys ns) 0 (refuses 0 0) ≡ gives d
-      → (0 < d .depth) × (d .depth ≤ length ns) × (d .depth < m .components) × ((l : Level) × Stands (m .components) (isLive t) (d .depth) l × (ask l ≡ gives (d .value)))
-  near-deep d e =
-      let h = near-hold ask (t .levels) (keys ns) d e in
-      let n : d .depth ≤ length ns = omega (arith, h .near, length-keys ns) in
-      let at : levelAt 0 (t .levels) (take (d .depth) (keys ns)) ≡ gives (h .level) = ap (λ (k : ℕ). levelAt 0 (t .levels) (take k (keys ns))) (less (d .depth)) ∙ h .at in
-      (h .far, n, shallow (h .level) n at (h .gave) (ltb (d .depth) (m .components)) refl, (h .level, stands-at (d .depth) (h .level) n at, h .gave))
-    where
-      less : (n : ℕ) → n ≡ n - 0
-      less n = omega arith
-
-      shallow : (l : Level) → d .depth ≤ length ns → levelAt 0 (t .levels) (take (d .depth) (keys ns)) ≡ gives l → ask l ≡ gives (d .value) → (x : Bool) → ltb (d .depth) (m .components) ≡ x → d .depth < m .components
-      shallow l n at g true q = ltb-true (d .depth) (m .components) q
-      shallow l n at g false q = absurd (silent-not (ask l) (d .value) (too-deep (d .depth) l n (ltb-false (d .depth) (m .components) q) at) g)
-
 -- the keys of a scope's first n components, and of a name in it
 module _ (c : Component) (ns : List Component) (n : ℕ) (h : n ≤ length ns) where
   pub with-last : keys (take n ns ++ (c ∷ [])) ≡ take n (keys ns) ++ (key c ∷ [])
@@ -306,40 +146,126 @@ module _ (c : Component) (ns : List Component) (n : ℕ) (h : n ≤ length ns) w
   pub front-length : length (take n (keys ns)) ≡ n
   front-length = length-take-le n (keys ns) (omega (arith, length-keys ns))
 
--- values: what a scope answers is what its level does
-module _ (m : Limits) (t : Tree) (w : Whole m t) (c : Component) (ns : List Component) (room : length ns ≤ m .components) where
-  abbrev pub askValue : Level → Answer ℕ
-  askValue l = handleIn (key c) (l .bindings)
+-- No name and no level has more components than the limit, so a scope of that many holds none.
+module _ (m : Limits) (t : Tree) (w : Whole m t) (p : List ℕ) where
+  pub level-shallow : (l : Level) → levelAt 0 (t .levels) p ≡ gives l → length p ≤ m .components
+  level-shallow l e = omega (arith, level-stands (m .components) (isLive t) (t .levels) 0 0 0 p l (w .forest) e .fits .shallow)
 
-  quiet : (l : Level) → Stands (m .components) (isLive t) (m .components) l → Silent (askValue l)
-  unfolding handleIn
-  quiet l s = rw (deep-bindings (m .components) (isLive t) (m .components) l s refl) tt
+  pub name-shallow : (h : ℕ) → lookUp t p ≡ gives h → length (scopeOf p) < m .components
+  unfolding lookUp handleIn
+  name-shallow h e = go (leb (length p) 1) (levelAt 0 (t .levels) (scopeOf p)) refl e
+    where
+      held : (l : Level) → levelAt 0 (t .levels) (scopeOf p) ≡ gives l → handleIn (lastOf p) (l .bindings) ≡ gives h → (x : Bool) → ltb (length (scopeOf p)) (m .components) ≡ x → length (scopeOf p) < m .components
+      held l q e true x = ltb-true (length (scopeOf p)) (m .components) x
+      held l q e false x =
+          let s = level-stands (m .components) (isLive t) (t .levels) 0 0 0 (scopeOf p) l (w .forest) q in
+          refuses-not (sym (ap (handleIn (lastOf p)) (deep-bindings (m .components) (isLive t) (0 + length (scopeOf p)) l s (omega (arith, s .fits .shallow, ltb-false (length (scopeOf p)) (m .components) x)))) ∙ e)
+
+      go : (x : Bool) (a : Answer Level) → levelAt 0 (t .levels) (scopeOf p) ≡ a → cond x (refuses 13 0) (andThen a (λ l. handleIn (lastOf p) (l .bindings))) ≡ gives h → length (scopeOf p) < m .components
+      go true a q e = refuses-not e
+      go false (gives l) q e = held l q e (ltb (length (scopeOf p)) (m .components)) refl
+      go false (refuses i j) q e = refuses-not e
+
+-- an answer that refuses, behind a test or not
+alike-refused : {A : Type 0} (x : Bool) (a : Answer A) (n k i j u v : ℕ) → a ≡ refuses n k → Alike (cond x a (refuses i j)) (refuses u v)
+alike-refused true a n k i j u v e = rw e tt
+alike-refused false a n k i j u v e = tt
+
+-- Each scope answers as the words do.
+module _ (m : Limits) (hm : m .objects ≤ 2 ^ 32) (ws : List ℕ) (ok : wellFormed m ws ≡ true) (c : Component) (ns : List Component) where
+  abbrev t : Tree
+  t = decode m ws
+
+  abbrev ls : List ℕ
+  ls = take (m .levels) ws
+
+  abbrev bs : List ℕ
+  bs = take (m .bindings) (drop (m .levels) ws)
 
   module _ (n : ℕ) (z : 0 < n) (h : n ≤ length ns) where
-    one-more : length (take n (keys ns) ++ (key c ∷ [])) ≡ suc n
-    one-more = length-append (take n (keys ns)) (key c ∷ []) ∙ plus (length (take n (keys ns))) n (front-length c ns n h)
+    abbrev p : List ℕ
+    p = take n (keys ns) ++ (key c ∷ [])
+
+    long : length p ≡ suc n
+    long = length-append (take n (keys ns)) (key c ∷ []) ∙ plus (length (take n (keys ns))) n (front-length c ns n h)
       where
         plus : (k n : ℕ) → k ≡ n → k + 1 ≡ suc n
         plus k n e = omega arith
 
-    scope-is : scopeOf (take n (keys ns) ++ (key c ∷ [])) ≡ take n (keys ns)
-    scope-is = take-at (take n (keys ns)) (key c ∷ []) (length (take n (keys ns) ++ (key c ∷ [])) - 1) (omega (arith, one-more, front-length c ns n h))
+    -- values
+    value-low : (v : ℕ) → lookUp t p ≡ gives v → n < m .components
+    value-low v e = omega (arith, name-shallow m t (whole m hm ws ok) p v e, length-take-le (length p - 1) p (omega (arith, long)), long)
 
-    last-is : lastOf (take n (keys ns) ++ (key c ∷ [])) ≡ key c
-    last-is = getD-at (take n (keys ns)) (key c) [] 0 (length (take n (keys ns) ++ (key c ∷ [])) - 1) (omega (arith, one-more, front-length c ns n h))
+    same-value : Alike (valueIn m t c (take n ns)) (valueHeld ls bs (keys ns) (key c) n)
+    unfolding valueIn valueHeld
+    same-value = rw (with-last c ns n h, length-take-le n ns h) (go (spotIn ls bs p) refl)
+      where
+        go : (r : Spot) → r ≡ spotIn ls bs p → Alike (cond (ltb n (m .components)) (lookUp t p) (refuses 16 0)) (spotted r)
+        go (Spot.Bound v) e =
+            let x = spot-bound m hm ws ok p (Spot.Bound v) e v refl .0 in
+            rw (lt-ltb n (m .components) (value-low v x), x) refl
+        go (Spot.Free k i) e = alike-refused (ltb n (m .components)) (lookUp t p) 16 0 16 0 16 0 (spot-open m hm ws ok p (Spot.Free k i) e k i refl .looked)
+        go (Spot.Refused x) e = alike-refused (ltb n (m .components)) (lookUp t p) _ _ 16 0 16 0 (spot-refused m hm ws ok p (Spot.Refused x) e x refl .0)
 
-    looked : lookUp t (keys (take n ns ++ (c ∷ []))) ≡ andThen (levelAt 0 (t .levels) (take n (keys ns))) askValue
-    unfolding lookUp
-    looked = rw (with-last c ns n h, lt-leb (length (take n (keys ns) ++ (key c ∷ []))) 1 (omega (arith, one-more)), scope-is, last-is)
+    value-held : (v : ℕ) → valueHeld ls bs (keys ns) (key c) n ≡ gives v → (n < m .components) × (isLive t v ≡ true)
+    unfolding valueHeld
+    value-held v = go (spotIn ls bs p) refl
+      where
+        go : (r : Spot) → r ≡ spotIn ls bs p → spotted r ≡ gives v → (n < m .components) × (isLive t v ≡ true)
+        go (Spot.Bound x) e d =
+            let y : x ≡ v = gives-same d in
+            (value-low x (spot-bound m hm ws ok p (Spot.Bound x) e x refl .0), rw (← y) (spot-live m hm ws ok p (Spot.Bound x) e x refl))
+        go (Spot.Free k i) e d = refuses-not d
+        go (Spot.Refused x) e d = refuses-not d
 
-    same-value : Alike (valueIn m t c (take n ns)) (andThen (levelAt 0 (t .levels) (take n (keys ns))) askValue)
-    unfolding valueIn
-    same-value = scope-alike m t w askValue quiet ns room n 16 0 (lookUp t (keys (take n ns ++ (c ∷ [])))) h (λ d. rw looked (alike-refl (andThen (levelAt 0 (t .levels) (take n (keys ns))) askValue)))
+    -- levels
+    level-seen : (q : List ℕ) → 0 < length q → (x : Sought) → seekF (t .levels) q 0 0 0 ≡ x → Alike (andThen (levelAt 0 (t .levels) q) (λ l. gives tt)) (seen x)
+    level-seen [] y x e = absurd (omega arith)
+    level-seen (s ∷ q) y x e = go x e (subst (λ (x : Sought). lacking 0 q x (levelAt 0 (t .levels) (s ∷ q))) e (lacks (m .components) (isLive t) (t .levels) 0 0 s q 0 0 (whole m hm ws ok .forest)))
+      where
+        go : (x : Sought) → seekF (t .levels) (s ∷ q) 0 0 0 ≡ x → lacking 0 q x (levelAt 0 (t .levels) (s ∷ q)) → Alike (andThen (levelAt 0 (t .levels) (s ∷ q)) (λ l. gives tt)) (seen x)
+        go (here j) e a = rw (focus (m .components) (isLive t) (t .levels) 0 0 s q 0 0 j (whole m hm ws ok .forest) e .found) refl
+        go (before j) e a = rw a tt
+        go (missing k) e a = rw a tt
 
-  pub value-search : outward (valueIn m t c) (refuses 16 0) ns (length ns) 0 ≡ foundOf ns (length ns) (refuses 16 0) (nearF askValue (t .levels) (keys ns) 0 (refuses 0 0))
-  value-search = outward-near (valueIn m t c) askValue (refuses 16 0) (t .levels) ns same-value
+    level-is : Alike (andThen (levelAt 0 (t .levels) p) (λ l. gives tt)) (levelHeld ls (keys ns) (key c) n)
+    unfolding levelHeld
+    level-is = rw (seek-held m hm ws ok p) (level-seen p (omega (arith, long)) (seekF (t .levels) p 0 0 0) refl)
 
-  pub value-deep : (d : Deep ℕ) → nearF askValue (t .levels) (keys ns) 0 (refuses 0 0) ≡ gives d → (0 < d .depth) × (d .depth ≤ length ns) × (d .depth < m .components) × (isLive t (d .value) ≡ true)
+    level-low : (a : Answer Level) → levelAt 0 (t .levels) p ≡ a → (v : Unit {0}) → andThen a (λ l. gives tt) ≡ gives v → n < m .components
+    level-low (gives l) e v d = omega (arith, level-shallow m t (whole m hm ws ok) p l e, long)
+    level-low (refuses i j) e v d = refuses-not d
+
+    level-alike : (a : Answer (Unit {0})) (b : Answer (Unit {0})) → Alike a b → ((v : Unit {0}) → a ≡ gives v → n < m .components) → Alike (cond (ltb n (m .components)) a (refuses 15 1)) b
+    level-alike (gives a) (gives b) x f = rw (lt-ltb n (m .components) (f a refl)) x
+    level-alike (gives a) (refuses i j) x f = absurd x
+    level-alike (refuses i j) (gives b) x f = absurd x
+    level-alike (refuses i j) (refuses u v) x f = alike-refused (ltb n (m .components)) (refuses i j) i j 15 1 u v refl
+
+    same-level : Alike (levelIn m t c (take n ns)) (levelHeld ls (keys ns) (key c) n)
+    unfolding levelIn
+    same-level = rw (with-last c ns n h, length-take-le n ns h) (level-alike (andThen (levelAt 0 (t .levels) p) (λ l. gives tt)) (levelHeld ls (keys ns) (key c) n) level-is (level-low (levelAt 0 (t .levels) p) refl))
+
+    level-held : (v : Unit {0}) → levelHeld ls (keys ns) (key c) n ≡ gives v → n < m .components
+    level-held v d = go (levelAt 0 (t .levels) p) refl (subst (Alike (andThen (levelAt 0 (t .levels) p) (λ l. gives tt))) d level-is)
+      where
+        go : (a : Answer Level) → levelAt 0 (t .levels) p ≡ a → Alike (andThen a (λ l. gives tt)) (gives v) → n < m .components
+        go (gives l) e x = level-low (gives l) e tt refl
+        go (refuses i j) e x = absurd x
+
+  pub value-search : outward (valueIn m t c) (refuses 16 0) ns (length ns) 0 ≡ foundOf ns (length ns) (refuses 16 0) (deepest (valueHeld ls bs (keys ns) (key c)) (length ns))
+  value-search = outward-near (valueIn m t c) (valueHeld ls bs (keys ns) (key c)) (refuses 16 0) ns same-value
+
+  pub value-deep : (d : Deep ℕ) → deepest (valueHeld ls bs (keys ns) (key c)) (length ns) ≡ gives d → (0 < d .depth) × (d .depth ≤ length ns) × (d .depth < m .components) × (isLive t (d .value) ≡ true)
   value-deep d e =
-      let h = near-deep m t w askValue quiet ns room d e in
-      (h .0, h .1, h .2, handle-live (isLive t) 0 (key c) (d .value) (h .3 .0 .bindings) (h .3 .1 .fits .ordered) (h .3 .2))
+      let g = deepest-gave (valueHeld ls bs (keys ns) (key c)) (length ns) d e in
+      let v = value-held (d .depth) (g .0) (g .1) (d .value) (g .2) in
+      (g .0, g .1, v .0, v .1)
+
+  pub level-search : outward (levelIn m t c) (refuses 15 1) ns (length ns) 0 ≡ foundOf ns (length ns) (refuses 15 1) (deepest (levelHeld ls (keys ns) (key c)) (length ns))
+  level-search = outward-near (levelIn m t c) (levelHeld ls (keys ns) (key c)) (refuses 15 1) ns same-level
+
+  pub level-deep : (d : Deep (Unit {0})) → deepest (levelHeld ls (keys ns) (key c)) (length ns) ≡ gives d → (0 < d .depth) × (d .depth ≤ length ns) × (d .depth < m .components)
+  level-deep d e =
+      let g = deepest-gave (levelHeld ls (keys ns) (key c)) (length ns) d e in
+      (g .0, g .1, level-held (d .depth) (g .0) (g .1) (d .value) (g .2))

@@ -9,10 +9,9 @@ use lib.Dec.{eqb}
 use lib.ListN.{length, take, drop, getD, drop-of-length-le, length-drop, length-take}
 use lib.Seq.{drop-cons, take-suc}
 use borrow.Author.Tests.{eqb-true, eqb-false}
-use Rattle.table.specs.Layout.{rankOf, countOf, segOf}
-use Rattle.table.specs.Inside.{here, gone, seekIn, counts, run, placed, goneAt}
+use Rattle.table.specs.Layout.{rankOf, countOf}
+use Rattle.table.specs.Inside.{gone, counts, run, placed, goneAt}
 use Rattle.table.specs.declared.inner.Sought.{Sought as Placed}
-use Rattle.table.proofs.Seek.{seek-stop, seek-down, seek-before, seek-other, seek-deep}
 use Rattle.table.proofs.Focus.{counts-append}
 use Rattle.table.proofs.Remove.{run-more, run-stop}
 
@@ -26,11 +25,11 @@ unfolding counts
 counts-bound [] = omega arith
 counts-bound (w ∷ ws) = omega (arith, counts-bound ws)
 
-pub counts-low : (ws : List ℕ) (k n : ℕ) → length ws ≤ n → counts (take k ws) ≤ 1023 * n
-counts-low ws k n h = omega (arith, counts-bound (take k ws), length-take k ws)
+pub counts-low : (ws : List ℕ) (k : ℕ) → counts (take k ws) ≤ 1023 * k
+counts-low ws k = omega (arith, counts-bound (take k ws), length-take k ws)
 
 -- the pass to a path
-gone-at : (ls path : List ℕ) (r j k : ℕ) → r ≡ j → j < length path → placed ls (gone (drop (suc j) path) r k) ≡ goneAt (length path) j k
+pub gone-at : (ls path : List ℕ) (r j k : ℕ) → r ≡ j → j < length path → placed ls (gone (drop (suc j) path) r k) ≡ goneAt (length path) j k
 unfolding gone
 gone-at ls path r j k q h = go (eqb (j + 1) (length path)) refl
   where
@@ -41,38 +40,6 @@ gone-at ls path r j k q h = go (eqb (j + 1) (length path)) refl
     go : (e : Bool) → eqb (j + 1) (length path) ≡ e → placed ls (gone (drop (suc j) path) r k) ≡ cond e (Placed.Before k) (Placed.Missing j)
     go true e = rw (drop-of-length-le path {i = suc j} (omega (arith, eqb-true (j + 1) (length path) e)))
     go false e = many (drop (suc j) path) (λ d. eqb-false (j + 1) (length path) e (omega (arith, length-drop (suc j) path)))
-
-module _ (ls path : List ℕ) (at j k : ℕ) (hj : j < length path) where
-  pub turn-out : length ls ≤ k → goneAt (length path) j k ≡ placed ls (seekIn (drop j path) (drop k ls) j at k)
-  unfolding seekIn
-  turn-out h = sym (rw (drop-cons path j 0 hj, drop-of-length-le ls h) (gone-at ls path j j k refl hj))
-
-  module _ (hk : k < length ls) where
-    pub turn-stop : rankOf (getD ls k 0) ≤ j → goneAt (length path) j k ≡ placed ls (seekIn (drop j path) (drop k ls) j at k)
-    turn-stop h = sym (rw (drop-cons path j 0 hj, drop-cons ls k 0 hk) (ap (placed ls) (seek-stop _ _ _ _ j at k h) ∙ gone-at ls path j j k refl hj))
-
-    pub turn-deep : j < rankOf (getD ls k 0) → (rankOf (getD ls k 0) ≡ j + 1 → ⊥)
-        → seekIn (drop j path) (drop (k + 1) ls) j at (k + 1) ≡ seekIn (drop j path) (drop k ls) j at k
-    turn-deep l h = sym (rw (drop-cons path j 0 hj, drop-cons ls k 0 hk, add-one k) (seek-deep _ _ _ _ j at k (omega arith)))
-
-    module _ (h : rankOf (getD ls k 0) ≡ j + 1) where
-      same-rank : rankOf (getD ls k 0) ≡ suc j
-      same-rank = omega arith
-
-      pub turn-down : segOf (getD ls k 0) ≡ getD path j 0
-          → seekIn (drop (j + 1) path) (drop (k + 1) ls) (j + 1) k (k + 1) ≡ seekIn (drop j path) (drop k ls) j at k
-      turn-down e = sym (rw (drop-cons path j 0 hj, drop-cons ls k 0 hk, add-one k, add-one j) (seek-down _ _ _ _ j at k same-rank e))
-
-      pub turn-before : getD path j 0 < segOf (getD ls k 0) → goneAt (length path) j k ≡ placed ls (seekIn (drop j path) (drop k ls) j at k)
-      turn-before l = sym (rw (drop-cons path j 0 hj, drop-cons ls k 0 hk) (ap (placed ls) (seek-before _ _ _ _ j at k same-rank l) ∙ gone-at ls path j j k refl hj))
-
-      pub turn-other : segOf (getD ls k 0) ≤ getD path j 0 → (segOf (getD ls k 0) ≡ getD path j 0 → ⊥)
-          → seekIn (drop j path) (drop (k + 1) ls) j at (k + 1) ≡ seekIn (drop j path) (drop k ls) j at k
-      turn-other l n = sym (rw (drop-cons path j 0 hj, drop-cons ls k 0 hk, add-one k) (seek-other _ _ _ _ j at k same-rank (omega (arith, l, n))))
-
-pub turn-found : (path ws : List ℕ) (r at j k : ℕ) → length path ≤ j → here at ≡ seekIn (drop j path) ws r at k
-unfolding seekIn
-turn-found path ws r at j k hj = sym (rw (drop-of-length-le path hj))
 
 -- the pass over what stands below a level
 module _ (r : ℕ) (ls : List ℕ) (e : ℕ) (h : e < length ls) where

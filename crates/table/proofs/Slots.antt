@@ -1,13 +1,14 @@
 -- A segment among a level's bindings: the pass finds what the definitions say, and where a new binding goes.
-use mathlib.Core.Path.{_≡_, refl, ap, sym}
+use mathlib.Core.Path.{_≡_, refl, ap, sym, subst, _∙_}
+use mathlib.Core.Logic.{⊎-elim}
 use mathlib.Core.Bool.{Bool, true, false, cond, _||_}
 use mathlib.Core.List.{List, [], _∷_, _++_, map}
-use Prim.Native.Nat.{ℕ, suc, _+_, _/_, _%_, _<_, _≤_, _^_}
+use Prim.Native.Nat.{ℕ, zero, suc, _+_, _-_, _/_, _%_, _<_, _≤_, _^_}
 use native.Mathlib.Omega.{arith}
 use native.Mathlib.Numerals.{add-one}
 use lib.Dec.{ltb, eqb}
-use lib.ListN.{length, take, drop, getD}
-use lib.Seq.{slice, slice-cons, slice-empty}
+use lib.ListN.{length, take, drop, getD, length-drop}
+use lib.Seq.{slice, slice-cons, slice-empty, getD-take, getD-drop, length-take-le}
 use borrow.Author.Tests.{ltb-true, ltb-false, eqb-false, lt-ltb, le-ltb, eq-eqb, ne-eqb}
 use Rattle.pkg_length.proofs.Answers.{wrong}
 use Rattle.pkg_length.specs.Refusal.{gives, refuses}
@@ -16,9 +17,9 @@ use Rattle.table.specs.Tree.{Binding}
 use Rattle.table.specs.Layout.{bindingOf}
 use Rattle.table.specs.Valid.{segmentOk, rising}
 use Rattle.table.specs.Edits.{handleIn, isBound, insertBinding}
-use Rattle.table.specs.Inside.{slotIn}
+use Rattle.table.specs.Inside.{slotIn, Rising}
 use Rattle.table.specs.declared.inner.Slot.{Slot}
-use Rattle.table.proofs.Facts.{take-slice}
+use Rattle.table.proofs.Facts.{take-slice, plus-zero, lt-or-le}
 
 -- more handles
 pub rising-more : (live more : ℕ → Bool) (lo : ℕ) (bs : List Binding) → ((h : ℕ) → live h ≡ true → more h ≡ true) → rising live lo bs ≡ true → rising more lo bs ≡ true
@@ -162,3 +163,61 @@ module _ (s i e : ℕ) (l : List ℕ) (h : i < e) (k : e ≤ length l) where
 pub slot-end : (s i e : ℕ) (l : List ℕ) → i ≡ e → Slot.Free e ≡ slotIn s (map bindingOf (slice i e l)) i
 unfolding slotIn
 slot-end s i e l h = rw (h, slice-empty e l)
+
+-- smaller segments are passed over
+module _ (s : ℕ) (l : List ℕ) (f e : ℕ) (k : e ≤ length l) where
+  skip : (n : ℕ) → f + n ≤ e → ((i : ℕ) → f ≤ i → i < f + n → getD l i 0 / 2 ^ 32 < s)
+      → slotIn s (map bindingOf (slice (f + n) e l)) (f + n) ≡ slotIn s (map bindingOf (slice f e l)) f
+  skip zero h b = ap (λ (i : ℕ). slotIn s (map bindingOf (slice i e l)) i) (sym (plus-zero f))
+  skip (suc n) h b =
+      let x = b (f + n) (omega arith) (omega arith) in
+      ap (λ (i : ℕ). slotIn s (map bindingOf (slice i e l)) i) (more f n)
+      ∙ slot-on s (f + n) e l (omega arith) k (λ y. omega arith) (omega arith)
+      ∙ skip n (omega arith) (λ i x y. b i x (omega arith))
+    where
+      more : (f n : ℕ) → f + suc n ≡ f + n + 1
+      more f n = omega arith
+
+-- what the halving leaves: all before it is smaller
+pub slot-from : (s f n i : ℕ) (l : List ℕ) → f ≤ i → i ≤ f + n → f + n ≤ length l → ((j : ℕ) → f ≤ j → j < i → getD l j 0 / 2 ^ 32 < s)
+    → slotIn s (map bindingOf (slice i (f + n) l)) i ≡ slotIn s (map bindingOf (take n (drop f l))) f
+slot-from s f n i l h g k b =
+    ap (λ (x : ℕ). slotIn s (map bindingOf (slice x (f + n) l)) x) (there f i h)
+    ∙ skip s l f (f + n) k (i - f) (omega arith) (λ j x y. b j x (omega arith)) ∙ slot-start s f n l (omega arith)
+  where
+    there : (f i : ℕ) → f ≤ i → i ≡ f + (i - f)
+    there f i h = omega arith
+
+-- which half a segment is in
+module _ (bs : List ℕ) (f n : ℕ) (r : Rising bs f n) (s : ℕ) where
+  pub halved : (i mid : ℕ) → f ≤ i → i ≤ mid → mid < f + n → getD bs mid 0 / 2 ^ 32 < s → getD bs i 0 / 2 ^ 32 < s
+  halved i mid h k l e = ⊎-elim (λ x. omega (arith, r i mid h x l)) (λ x. let y : mid ≡ i = omega arith in subst (λ (j : ℕ). getD bs j 0 / 2 ^ 32 < s) y e) (lt-or-le i mid)
+
+  pub halved-up : (mid i : ℕ) → f ≤ mid → mid ≤ i → i < f + n → s ≤ getD bs mid 0 / 2 ^ 32 → s ≤ getD bs i 0 / 2 ^ 32
+  halved-up mid i h k l e = ⊎-elim (λ x. omega (arith, r mid i h x l)) (λ x. let y : mid ≡ i = omega arith in subst (λ (j : ℕ). s ≤ getD bs j 0 / 2 ^ 32) y e) (lt-or-le mid i)
+
+-- a level's bindings rise
+module _ (live : ℕ → Bool) where
+  rising-low : (lo : ℕ) (l : List ℕ) (j : ℕ) → rising live lo (map bindingOf l) ≡ true → j < length l → lo ≤ getD l j 0 / 2 ^ 32
+  rising-low lo [] j r h = absurd (omega arith)
+  rising-low lo (w ∷ l) zero r h = binding-tests live lo (bindingOf w) (map bindingOf l) r .rises
+  rising-low lo (w ∷ l) (suc j) r h =
+      let t = binding-tests live lo (bindingOf w) (map bindingOf l) r in
+      omega (arith, t .rises, rising-low (suc (w / 2 ^ 32)) l j (t .later) (omega arith))
+
+  rising-words : (lo : ℕ) (l : List ℕ) (i j : ℕ) → rising live lo (map bindingOf l) ≡ true → i < j → j < length l → getD l i 0 / 2 ^ 32 < getD l j 0 / 2 ^ 32
+  rising-words lo [] i j r h k = absurd (omega arith)
+  rising-words lo (w ∷ l) i zero r h k = absurd (omega arith)
+  rising-words lo (w ∷ l) zero (suc j) r h k = rising-low (suc (w / 2 ^ 32)) l j (binding-tests live lo (bindingOf w) (map bindingOf l) r .later) (omega arith)
+  rising-words lo (w ∷ l) (suc i) (suc j) r h k = rising-words (suc (w / 2 ^ 32)) l i j (binding-tests live lo (bindingOf w) (map bindingOf l) r .later) (omega arith) (omega arith)
+
+  pub slots-rise : (bs : List ℕ) (f n : ℕ) → f + n ≤ length bs → rising live 0 (map bindingOf (take n (drop f bs))) ≡ true → Rising bs f n
+  slots-rise bs f n h r i j a b c =
+      rw (at i a (omega arith), at j (omega arith) c)
+      (rising-words 0 (take n (drop f bs)) (i - f) (j - f) r (omega arith) (omega (arith, length-take-le n (drop f bs) (omega (arith, length-drop f bs)))))
+    where
+      there : (f x : ℕ) → f ≤ x → x ≡ f + (x - f)
+      there f x h = omega arith
+
+      at : (x : ℕ) → f ≤ x → x < f + n → getD bs x 0 ≡ getD (take n (drop f bs)) (x - f) 0
+      at x g y = ap (λ (k : ℕ). getD bs k 0) (there f x g) ∙ sym (getD-take n (drop f bs) (x - f) 0 (omega arith) ∙ getD-drop f bs (x - f) 0)

@@ -1,14 +1,17 @@
 -- What the functions inside promise one another. No public contract rests on these.
-use Prim.Native.Nat.{ℕ, suc, _+_, _-_, _^_, _<_, _≤_}
+use mathlib.Core.Path.{_≡_}
+use Prim.Native.Nat.{ℕ, zero, suc, _+_, _-_, _/_, _^_, _<_, _≤_}
 use mathlib.Core.Bool.{Bool, false, cond, not, _&&_}
 use mathlib.Core.List.{List, [], _∷_, _++_, map}
 use lib.Dec.{leb, ltb, eqb}
 use lib.ListN.{length, take, drop, getD, set, replicate}
+use Rattle.pkg_length.specs.Refusal.{Answer, gives, refuses}
 use Rattle.name_object.specs.Memory.{allZero}
 use Rattle.table.specs.Limits.{Limits}
 use Rattle.table.specs.Layout.{rankOf, typeOf, countOf, segOf, bindingOf}
 use Rattle.table.specs.Valid.{rising, levelOk}
 use Rattle.table.specs.declared.inner.Sought.{Sought as Placed}
+use Rattle.table.specs.declared.inner.Child.{Child}
 use Rattle.table.specs.declared.inner.Run.{Run}
 use Rattle.table.specs.declared.inner.Slot.{Slot}
 use Rattle.table.specs.declared.inner.Spot.{Spot}
@@ -83,6 +86,15 @@ seekIn (s ∷ p) (w ∷ ws) r at k =
     (cond (eqb (segOf w) s) (seekIn p ws (suc r) k (suc k)) (cond (ltb s (segOf w)) (gone p r k) (seekIn (s ∷ p) ws r at (suc k))))
     (seekIn (s ∷ p) ws r at (suc k)))
 
+-- a level's child of rank r and segment s, past deeper records and smaller segments; the words stand from index k on, and m bindings before them
+unfoldable pub childIn : ℕ → ℕ → List ℕ → ℕ → ℕ → Child
+childIn r s [] k m = Child.Gone k
+childIn r s (w ∷ ws) k m =
+    cond (ltb r (rankOf w)) (childIn r s ws (suc k) (m + countOf w))
+    (cond (ltb (rankOf w) r) (Child.Gone k)
+    (cond (ltb (segOf w) s) (childIn r s ws (suc k) (m + countOf w))
+    (cond (eqb (segOf w) s) (Child.At k m) (Child.Gone k))))
+
 -- how many bindings records have
 unfoldable pub counts : List ℕ → ℕ
 counts [] = 0
@@ -146,9 +158,14 @@ spotFrom ls bs p (missing n) = Spot.Refused (AmlError.LevelDoesNotExist n)
 unfoldable pub spotIn : List ℕ → List ℕ → List ℕ → Spot
 spotIn ls bs p = cond (isRoot p) (Spot.Refused AmlError.RootNotAllowed) (spotFrom ls bs p (seekIn (scopeOf p) ls 0 0 0))
 
--- the bindings that the records count are there
-abbrev pub BindingsHeld : List ℕ → List ℕ → Type 0
-BindingsHeld ls bs = (k : ℕ) → counts (take k ls) + countOf (getD ls k 0) ≤ length bs
+-- the segments of n binding words from index from on rise
+abbrev pub Rising : List ℕ → ℕ → ℕ → Type 0
+Rising bs from n = (i j : ℕ) → from ≤ i → i < j → j < from + n → getD bs i 0 / 2 ^ 32 < getD bs j 0 / 2 ^ 32
+
+-- the bindings that the records count are there, and those of a level that a path leads to rise
+pub record BindingsHeld (ls bs : List ℕ) : Type 0 where
+  pub held : (k : ℕ) → counts (take k ls) + countOf (getD ls k 0) ≤ length bs
+  pub rise : (p : List ℕ) (k : ℕ) → 0 < length p → seekIn p ls 0 0 0 ≡ here k → Rising bs (counts (take k ls)) (countOf (getD ls k 0))
 
 -- the words with one binding more: its level's record counts it, and its word stands at index i of the bindings
 unfoldable pub bindWords : Limits → List ℕ → ℕ → ℕ → ℕ → List ℕ
@@ -159,40 +176,58 @@ bindWords m ws at i x =
 
 -- Search.
 
-abbrev pub farthest : Nearest
-farthest = record { depth = 0; handle = 0 }
+-- what was found, and how many components its scope has
+pub record Deep (A : Type 0) : Type 0 where
+  pub depth : ℕ
+  pub value : A
 
--- what a level of the scope holds, before what was found further out
-abbrev pub nearerOf : ℕ → Slot → Nearest → Nearest
-nearerOf r (Slot.Bound h) out = record { depth = r; handle = h }
-nearerOf r (Slot.Free i) out = out
+-- a scope that answers is nearer than what was found further out
+abbrev pub closer : {A : Type 0} → ℕ → Answer A → Answer (Deep A) → Answer (Deep A)
+closer n (gives a) out = gives (record { depth = n; value = a })
+closer n (refuses k q) out = out
 
--- down the keys of a scope, r of them behind and m bindings passed; the words stand from the next record on
-unfoldable pub nearIn : ℕ → List ℕ → List ℕ → List ℕ → ℕ → ℕ → Nearest → Nearest
-nearIn s [] ws bs r m out = out
-nearIn s (x ∷ p) [] bs r m out = out
-nearIn s (x ∷ p) (w ∷ ws) bs r m out =
-    cond (leb (rankOf w) r) out
-    (cond (eqb (rankOf w) (suc r))
-    (cond (eqb (segOf w) x) (nearIn s p ws bs (suc r) (m + countOf w) (nearerOf (suc r) (slotIn s (map bindingOf (take (countOf w) (drop m bs))) m) out))
-    (cond (ltb x (segOf w)) out (nearIn s (x ∷ p) ws bs r (m + countOf w) out)))
-    (nearIn s (x ∷ p) ws bs r (m + countOf w) out))
+-- the innermost of the scopes of 1 to n components that answers
+unfoldable pub deepest : {A : Type 0} → (ℕ → Answer A) → ℕ → Answer (Deep A)
+deepest ask zero = refuses 0 0
+deepest ask (suc n) = closer (suc n) (ask (suc n)) (deepest ask n)
 
--- how many components the level of the scope has that a record of this rank stands in
-abbrev pub reopened : ℕ → ℕ → ℕ
-reopened depth rank = cond (leb rank depth) (rank - 1) depth
+-- what the words hold under a segment in the scope of a path's first n keys
+abbrev pub spotted : Spot → Answer ℕ
+spotted (Spot.Bound h) = gives h
+spotted (Spot.Free k i) = refuses 16 0
+spotted (Spot.Refused e) = refuses 16 0
 
--- the scope goes on with this segment
-abbrev pub onward : List ℕ → ℕ → ℕ → Bool
-onward p depth s = ltb depth (length p) && eqb s (getD p depth 0)
+unfoldable pub valueHeld : List ℕ → List ℕ → List ℕ → ℕ → ℕ → Answer ℕ
+valueHeld ls bs p s n = spotted (spotIn ls bs (take n p ++ (s ∷ [])))
 
-unfoldable pub nearLevelIn : ℕ → List ℕ → List ℕ → ℕ → ℕ → ℕ
-nearLevelIn s p [] depth best = best
-nearLevelIn s p (w ∷ ws) depth best =
-    cond (leb (rankOf w) best) best
-    (cond (eqb (rankOf w) (reopened depth (rankOf w) + 1))
-    (nearLevelIn s p ws (cond (onward p (reopened depth (rankOf w)) (segOf w)) (rankOf w) (reopened depth (rankOf w))) (cond (eqb (segOf w) s) (reopened depth (rankOf w)) best))
-    (nearLevelIn s p ws (reopened depth (rankOf w)) best))
+abbrev pub seen : Sought → Answer (Unit {0})
+seen (here k) = gives tt
+seen (before k) = refuses 15 1
+seen (missing n) = refuses 15 1
+
+unfoldable pub levelHeld : List ℕ → List ℕ → ℕ → ℕ → Answer (Unit {0})
+levelHeld ls p s n = seen (seekIn (take n p ++ (s ∷ [])) ls 0 0 0)
+
+-- as the code holds it; a depth of 0 is none
+abbrev pub nearestOf : Answer (Deep ℕ) → Nearest
+nearestOf (gives d) = record { depth = d .depth; handle = d .value }
+nearestOf (refuses n p) = record { depth = 0; handle = 0 }
+
+abbrev pub depthOf : Answer (Deep (Unit {0})) → ℕ
+depthOf (gives d) = d .depth
+depthOf (refuses n p) = 0
+
+-- the first n keys of p lead to the record at index at, whose bindings begin at index from; whatever follows them is looked for behind that record
+pub record Reached (ls p : List ℕ) (n at from : ℕ) : Type 0 where
+  pub inside : at < length ls
+  pub counted : from ≡ counts (take at ls)
+  pub leads : (q : List ℕ) → seekIn (take n p ++ q) ls 0 0 0 ≡ seekIn q (drop (at + 1) ls) n at (at + 1)
+
+-- the first n keys of p lead to levels, each with its place, and more of them to none
+pub record Trailed (ls p ats froms : List ℕ) (n : ℕ) : Type 0 where
+  pub short : n ≤ length p
+  pub there : (i : ℕ) → i < n → Reached ls p (i + 1) (getD ats i 0) (getD froms i 0)
+  pub gone : (i : ℕ) → n < i → i ≤ length p → (q : List ℕ) (j : ℕ) → seekIn (take i p ++ q) ls 0 0 0 ≡ here j → ⊥
 
 -- Paths.
 

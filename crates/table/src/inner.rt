@@ -2,7 +2,7 @@
 ghost use mathlib.Core.Path.{_≡_};
 ghost use mathlib.Core.Bool.{true, false, cond, _&&_};
 ghost use mathlib.Core.List.{_++_, map};
-ghost use Prim.Native.Nat.{ℕ, _+_, _-_, _^_, _<_, _≤_};
+ghost use Prim.Native.Nat.{ℕ, _+_, _-_, _*_, _^_, _<_, _≤_};
 ghost use lib.Dec.{eqb};
 ghost use lib.ListN.{length, take, drop, getD, replicate};
 ghost use Rattle.name_object.specs.Component.{componentLimit};
@@ -11,7 +11,7 @@ ghost use Rattle.table.specs.Limits.{limits};
 ghost use Rattle.table.specs.Layout.{bindingOf};
 ghost use Rattle.table.specs.Valid.{segmentOk, nameOk};
 ghost use Rattle.table.specs.Memory.{wellFormed, size};
-ghost use Rattle.table.specs.Inside.{wordOk, bindsOk, recordOk, scan, lowest, below, partsOk, seekIn, placed, goneAt, push, counts, subtreeOf, closed, slotIn, spotIn, bindWords, BindingsHeld, nearerOf, nearIn, farthest, reopened, onward, nearLevelIn, Keyed};
+ghost use Rattle.table.specs.Inside.{wordOk, bindsOk, recordOk, scan, lowest, below, partsOk, seekIn, placed, goneAt, push, counts, subtreeOf, closed, slotIn, spotIn, bindWords, Rising, BindingsHeld, childIn, Trailed, deepest, valueHeld, levelHeld, nearestOf, depthOf, Keyed};
 use crate::layout::BINDINGS;
 use crate::layout::COMPONENTS;
 use crate::layout::COUNT;
@@ -247,9 +247,47 @@ fn gone_at(n: usize, j: usize, k: usize) -> Sought
     }
 }
 
-// Where the path's level stands, or would stand, in one pass over the records.
+// A level's child.
+pub enum Child {
+    // the index of its record, and of its first binding
+    At(usize, usize),
+    // it is not there; the index where its record would stand
+    Gone(usize),
+}
+
+// The child of that rank and segment, among the records from index k on, m bindings being before them: past deeper records and smaller segments. A
+// word's highest field is its rank, so one comparison passes over a deeper record.
+fn find_child(levels: &[u64], k: usize, m: usize, rank: u64, seg: u64) -> Child
+    requires { ⌜ (length (now levels) ≤ limits .levels) × (m ≤ 1023 * k) × (rank ≤ componentLimit + 1) ⌝ }
+    ensures { λ r. ⌜ r ≡ childIn rank seg (drop k (now (levels .entry))) k m ⌝ }
+{
+    let low = rank * RANK;
+    let past = low + RANK;
+    let mut i = k;
+    let mut n = m;
+    while i < levels.len() {
+        let w = levels[i];
+        if w < past {
+            if w < low {
+                return Child::Gone(i);
+            }
+            let here = w % SEGMENT;
+            if seg <= here {
+                if seg == here {
+                    return Child::At(i, n);
+                }
+                return Child::Gone(i);
+            }
+        }
+        n += (w / COUNT % COUNTS) as usize;
+        i += 1;
+    }
+    Child::Gone(i)
+}
+
+// Where the path's level stands, or would stand.
 pub fn seek(levels: &[u64], path: &[u64]) -> Sought
-    requires { ⌜ length (now levels) ≤ limits .levels ⌝ }
+    requires { ⌜ (length (now levels) ≤ limits .levels) × (length (now path) ≤ componentLimit) ⌝ }
     ensures { λ r. ⌜ r ≡ placed (now (levels .entry)) (seekIn (now (path .entry)) (now (levels .entry)) 0 0 0) ⌝ }
 {
     let mut at = 0;
@@ -258,29 +296,19 @@ pub fn seek(levels: &[u64], path: &[u64]) -> Sought
     let mut k = 0;
     let mut j = 0;
     while j < path.len() {
-        if levels.len() <= k {
-            return gone_at(path.len(), j, k);
-        }
-        let w = levels[k];
-        let rank = w / RANK;
-        if rank <= j as u64 {
-            return gone_at(path.len(), j, k);
-        }
-        if rank == j as u64 + 1 {
-            let seg = w % SEGMENT;
-            let want = path[j];
-            if seg == want {
-                at = k;
-                from = m;
+        let found = find_child(levels, k, m, j as u64 + 1, path[j]);
+        match found {
+            Child::Gone(i) => {
+                return gone_at(path.len(), j, i);
+            }
+            Child::At(i, n) => {
+                at = i;
+                from = n;
+                m = n + (levels[i] / COUNT % COUNTS) as usize;
+                k = i + 1;
                 j += 1;
-            } else {
-                if want < seg {
-                    return gone_at(path.len(), j, k);
-                }
             }
         }
-        m += (w / COUNT % COUNTS) as usize;
-        k += 1;
     }
     Sought::Here(at, from)
 }
@@ -317,25 +345,30 @@ pub enum Slot {
     Free(usize),
 }
 
-// The n bindings from index from on.
+// Among the n bindings from index from on, which rise, by halves.
 fn find_slot(bindings: &[u64], from: usize, n: usize, seg: u64) -> Slot
-    requires { ⌜ from + n ≤ length (now bindings) ⌝ }
+    requires { ⌜ (from + n ≤ length (now bindings)) × Rising (now bindings) from n ⌝ }
     ensures { λ r. ⌜ r ≡ slotIn seg (map bindingOf (take n (drop from (now (bindings .entry))))) from ⌝ }
 {
     let end = from + n;
-    let mut i = from;
-    while i < end {
-        let b = bindings[i];
-        let here = b / SEGMENT;
-        if here == seg {
-            return Slot::Bound(b % SEGMENT);
+    let mut lo = from;
+    let mut hi = end;
+    while lo < hi {
+        let mid = lo + (hi - lo) / 2;
+        if bindings[mid] / SEGMENT < seg {
+            lo = mid + 1;
+        } else {
+            hi = mid;
         }
-        if seg < here {
-            return Slot::Free(i);
-        }
-        i += 1;
     }
-    Slot::Free(end)
+    if end <= lo {
+        return Slot::Free(lo);
+    }
+    let b = bindings[lo];
+    if b / SEGMENT == seg {
+        return Slot::Bound(b % SEGMENT);
+    }
+    Slot::Free(lo)
 }
 
 // Where a path's last segment is bound, or would be.
@@ -348,7 +381,7 @@ pub enum Spot {
 }
 
 fn find_spot_in(levels: &[u64], bindings: &[u64], path: &[u64]) -> Spot
-    requires { ⌜ (length (now levels) ≡ limits .levels) × (1 < length (now path)) × BindingsHeld (now levels) (now bindings) ⌝ }
+    requires { ⌜ (length (now levels) ≡ limits .levels) × (1 < length (now path)) × (length (now path) ≤ componentLimit) × BindingsHeld (now levels) (now bindings) ⌝ }
     ensures { λ r. ⌜ r ≡ spotIn (now (levels .entry)) (now (bindings .entry)) (now (path .entry)) ⌝ }
 {
     let n = path.len() - 1;
@@ -392,105 +425,84 @@ pub struct Nearest {
     pub handle: u64,
 }
 
-// The bindings of a level of the scope, which has that many components, before what was found further out.
-fn nearer(bindings: &[u64], from: usize, n: usize, seg: u64, depth: usize, out: Nearest) -> Nearest
-    requires { ⌜ from + n ≤ length (now bindings) ⌝ }
-    ensures { λ r. ⌜ r ≡ nearerOf depth (slotIn seg (map bindingOf (take n (drop from (now (bindings .entry))))) from) out ⌝ }
+// Down the scope's levels, from the root on, as far as they are there: how many they are, and for each the index of its record and of its first binding.
+fn trail(
+    levels: &[u64],
+    scope: &[u64],
+    ats: &mut [usize; COMPONENTS],
+    froms: &mut [usize; COMPONENTS],
+) -> usize
+    requires { ⌜ (length (now levels) ≤ limits .levels) × (length (now scope) ≤ componentLimit) × (length (now ats) ≡ componentLimit) × (length (now froms) ≡ componentLimit) ⌝ }
+    ensures { λ r. ⌜ Trailed (now (levels .entry)) (now (scope .entry)) (now (ats .exit)) (now (froms .exit)) r ⌝ }
 {
-    let seen = find_slot(bindings, from, n, seg);
-    match seen {
-        Slot::Bound(handle) => Nearest { depth, handle },
-        Slot::Free(_) => out,
-    }
-}
-
-// Down the scope's levels in one pass over the records, remembering the nearest binding on the way.
-pub fn nearest_value(levels: &[u64], bindings: &[u64], scope: &[u64], seg: u64) -> Nearest
-    requires { ⌜ (length (now levels) ≤ limits .levels) × BindingsHeld (now levels) (now bindings) ⌝ }
-    ensures { λ r. ⌜ r ≡ nearIn seg (now (scope .entry)) (now (levels .entry)) (now (bindings .entry)) 0 0 farthest ⌝ }
-{
-    let mut best = Nearest {
-        depth: 0,
-        handle: 0,
-    };
     let mut m = 0;
     let mut k = 0;
     let mut j = 0;
     while j < scope.len() {
-        if levels.len() <= k {
-            return best;
-        }
-        let w = levels[k];
-        let rank = w / RANK;
-        if rank <= j as u64 {
-            return best;
-        }
-        let n = (w / COUNT % COUNTS) as usize;
-        if rank == j as u64 + 1 {
-            let here = w % SEGMENT;
-            let want = scope[j];
-            if here == want {
+        let found = find_child(levels, k, m, j as u64 + 1, scope[j]);
+        match found {
+            Child::Gone(_) => {
+                return j;
+            }
+            Child::At(i, n) => {
+                ats[j] = i;
+                froms[j] = n;
+                m = n + (levels[i] / COUNT % COUNTS) as usize;
+                k = i + 1;
                 j += 1;
-                best = nearer(bindings, m, n, seg, j, best);
-            } else {
-                if want < here {
-                    return best;
-                }
             }
         }
-        m += n;
-        k += 1;
     }
-    best
+    j
 }
 
-// The first where the test holds, else the second.
-fn choose(test: bool, a: usize, b: usize) -> usize
-    ensures { λ r. ⌜ r ≡ cond test a b ⌝ }
+// The scope is asked, and then each around it, by the levels that are there.
+pub fn nearest_value(levels: &[u64], bindings: &[u64], scope: &[u64], seg: u64) -> Nearest
+    requires { ⌜ (length (now levels) ≤ limits .levels) × (length (now scope) ≤ componentLimit) × BindingsHeld (now levels) (now bindings) ⌝ }
+    ensures { λ r. ⌜ r ≡ nearestOf (deepest (valueHeld (now (levels .entry)) (now (bindings .entry)) (now (scope .entry)) seg) (length (now (scope .entry)))) ⌝ }
 {
-    if test { a } else { b }
-}
-
-// How many components the level of the scope has that a record of this rank stands in.
-fn reopen(depth: usize, rank: usize) -> usize
-    requires { ⌜ 0 < rank ⌝ }
-    ensures { λ r. ⌜ r ≡ reopened depth rank ⌝ }
-{
-    if rank <= depth { rank - 1 } else { depth }
-}
-
-// The scope goes on with this segment.
-fn goes_on(scope: &[u64], depth: usize, seg: u64) -> bool
-    ensures { λ r. ⌜ r ≡ onward (now (scope .entry)) depth seg ⌝ }
-{
-    if depth < scope.len() {
-        seg == scope[depth]
-    } else {
-        false
+    let mut ats = [0usize; COMPONENTS];
+    let mut froms = [0usize; COMPONENTS];
+    let mut depth = trail(levels, scope, &mut ats, &mut froms);
+    while 0 < depth {
+        let at = ats[depth - 1];
+        let from = froms[depth - 1];
+        let count = (levels[at] / COUNT % COUNTS) as usize;
+        let found = find_slot(bindings, from, count, seg);
+        match found {
+            Slot::Bound(handle) => {
+                return Nearest { depth, handle };
+            }
+            Slot::Free(_) => {
+                depth -= 1;
+            }
+        }
+    }
+    Nearest {
+        depth: 0,
+        handle: 0,
     }
 }
 
-// The innermost scope that has a level of that segment: how many components it has, 0 for none. One pass: depth is how many components the
-// innermost level of the scope has that the pass is in. What follows a record of no higher rank than the best stands in no nearer scope.
+// The same over levels: how many components the innermost scope has that holds one of that segment, 0 for none.
 pub fn nearest_level(levels: &[u64], scope: &[u64], seg: u64) -> usize
-    ensures { λ r. ⌜ r ≡ nearLevelIn seg (now (scope .entry)) (now (levels .entry)) 0 0 ⌝ }
+    requires { ⌜ (length (now levels) ≤ limits .levels) × (length (now scope) ≤ componentLimit) ⌝ }
+    ensures { λ r. ⌜ r ≡ depthOf (deepest (levelHeld (now (levels .entry)) (now (scope .entry)) seg) (length (now (scope .entry)))) ⌝ }
 {
-    let mut depth: usize = 0;
-    let mut best: usize = 0;
-    let mut k = 0;
-    while k < levels.len() {
-        let w = levels[k];
-        let rank = (w / RANK) as usize;
-        if rank <= best {
-            return best;
+    let mut ats = [0usize; COMPONENTS];
+    let mut froms = [0usize; COMPONENTS];
+    let mut depth = trail(levels, scope, &mut ats, &mut froms);
+    while 0 < depth {
+        let at = ats[depth - 1];
+        let found = find_child(levels, at + 1, 0, depth as u64 + 1, seg);
+        match found {
+            Child::At(_, _) => {
+                return depth;
+            }
+            Child::Gone(_) => {
+                depth -= 1;
+            }
         }
-        depth = reopen(depth, rank);
-        if rank == depth + 1 {
-            let here = w % SEGMENT;
-            best = choose(here == seg, depth, best);
-            depth = choose(goes_on(scope, depth, here), rank, depth);
-        }
-        k += 1;
     }
-    best
+    0
 }

@@ -24,7 +24,8 @@ slice-aggregate-seek c =
 
 seek-requires : tie.Need-seek-requires
 seek-requires c κs =
-    omega (arith, length-ls limits (omega arith) (c .before .before .before .before .args .table .now) (c .before .before .before .before .pre .0))
+    let c4 = c .before .before .before .before in
+    (omega (arith, length-ls limits (omega arith) (c4 .args .table .now) (c4 .pre .0)), c4 .pre .1 .short)
 
 slice-read-if2 : tie.Need-slice-read-if2
 slice-read-if2 c =

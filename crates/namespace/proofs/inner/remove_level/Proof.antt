@@ -22,7 +22,8 @@ slice-aggregate-seek c =
 
 seek-requires : tie.Need-seek-requires
 seek-requires c κs =
-    omega (arith, length-ls limits (omega arith) (c .before .before .before .before .args .table .now) (c .before .before .before .before .pre .0))
+    let c4 = c .before .before .before .before in
+    (omega (arith, length-ls limits (omega arith) (c4 .args .table .now) (c4 .pre .0)), c4 .pre .1 .short)
 
 slice-reshare-prefix-subtree : tie.Need-slice-reshare-prefix-subtree
 slice-reshare-prefix-subtree c =

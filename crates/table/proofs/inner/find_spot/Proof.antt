@@ -29,7 +29,7 @@ part-find-spot-in-end c =
 find-spot-in-requires : tie.Need-find-spot-in-requires
 find-spot-in-requires c κs =
     let ws = c .before .before .before .before .before .args .table .now in
-    (length-ls limits (omega arith) ws (c .before .before .before .before .before .pre .0), c .before .before .if1 .left, bindings-held limits (omega arith) ws (c .before .before .before .before .before .pre .0))
+    (length-ls limits (omega arith) ws (c .before .before .before .before .before .pre .0), c .before .before .if1 .left, c .before .before .before .before .before .pre .1 .short, bindings-held limits (omega arith) ws (c .before .before .before .before .before .pre .0))
 
 returns-2 : tie.Need-returns-2
 returns-2 c = c .find-spot-in .ensures

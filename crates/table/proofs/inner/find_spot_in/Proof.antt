@@ -4,7 +4,7 @@ use Prim.Native.Nat.{_-_}
 use lib.ListN.{length}
 use lib.Seq.{length-take-le}
 use Rattle.table.specs.Inside.{slotSpot}
-use Rattle.table.proofs.Spots.{spot-inside, spot-from, spot-slot, spot-before, spot-missing}
+use Rattle.table.proofs.Spots.{spot-inside, spot-fits, spot-slot, spot-before, spot-missing}
 use borrow.Author.Needs.{needs}
 use native.Mathlib.Omega.{arith}
 use Rattle.table.proofs.inner.find_spot_in.Statement.{statement}
@@ -15,7 +15,9 @@ slice-aggregate-seek c =
     let p = c .before .before .before .before .args .path .now in sym (length-take-le (length p - 1) p (omega arith))
 
 seek-requires : tie.Need-seek-requires
-seek-requires c κs = omega (arith, c .before .before .before .before .pre .0)
+seek-requires c κs =
+    let p = c .before .before .before .before .args .path .now in
+    (omega (arith, c .before .before .before .before .pre .0), omega (arith, length-take-le (length p - 1) p (omega arith), c .before .before .before .before .pre .2))
 
 mul-count : tie.Need-mul-count
 mul-count c =
@@ -34,7 +36,7 @@ find-slot-requires c κs =
     let c3 = c .before .before .before in
     let c5 = c3 .before .before in
     let c10 = c5 .before .before .before .before .before in
-    rw (spot-from (c10 .args .levels .now) (c10 .args .bindings .now) (c10 .args .path .now) (c10 .pre .1) (c5 .seek .result) (c5 .seek .ensures) (c3 .found .given .0 .0) (c3 .found .given .0 .1 .0) (c3 .found .given .1)) (c10 .pre .2 (c3 .found .given .0 .0))
+    spot-fits (c10 .args .levels .now) (c10 .args .bindings .now) (c10 .args .path .now) (c10 .pre .1) (c5 .seek .result) (c5 .seek .ensures) (c10 .pre .3) (c3 .found .given .0 .0) (c3 .found .given .0 .1 .0) (c3 .found .given .1)
 
 returns : tie.Need-returns
 returns c =

@@ -1,72 +1,105 @@
--- What is left of the path over what is left of the records leads where the whole does; bindings are counted on the way.
-use mathlib.Core.Path.{_≡_, refl, ap, ap₂, sym, _∙_}
-use mathlib.Core.Logic.{⊎-elim}
-use Prim.Native.Nat.{ℕ, _+_, _-_, _≤_}
-use lib.ListN.{length, take, drop, getD}
-use Rattle.table.specs.Layout.{countOf}
-use Rattle.table.specs.Inside.{seekIn, counts, placed}
-use Rattle.table.specs.declared.inner.Sought.{Sought as Placed}
-use Rattle.table.proofs.Passes.{counts-turn, counts-low, turn-out, turn-stop, turn-deep, turn-down, turn-before, turn-other, turn-found}
+-- The first keys lead to where the next is looked for; its child is there, or the path ends where it is not.
+use mathlib.Core.Path.{_≡_, refl, _∙_}
+use Prim.Native.Nat.{_+_, _-_}
+use lib.ListN.{length, take, getD}
+use Rattle.table.specs.Inside.{counts}
+use Rattle.table.proofs.Passes.{counts-low}
+use Rattle.table.proofs.Child.{Cursor, cursor-start, cursor-low, found-inside, found-from, cursor-turn, placed-gone, cursor-end}
 use borrow.Author.Needs.{needs}
 use native.Mathlib.Omega.{arith}
 use Rattle.table.proofs.inner.seek.Statement.{statement}
 use Rattle.table.proofs.inner.seek.Tie as tie
 
 abbrev Inv-loop : tie.InvT-loop
-Inv-loop levels path at₀ from₀ m₀ k₀ j₀ at from m k j =
-    (j ≤ length path) × (k ≤ length levels) × (m ≡ counts (take k levels)) × (from ≡ counts (take at levels))
-    × (seekIn (drop j path) (drop k levels) j at k ≡ seekIn path levels 0 0 0)
+Inv-loop levels path at₀ from₀ m₀ k₀ j₀ at from m k j = Cursor levels path j at k m × (from ≡ counts (take at levels))
 
 abbrev μ-loop : tie.MeasureT-loop
-μ-loop levels path at₀ from₀ m₀ k₀ j₀ at from m k j = length levels - k
+μ-loop levels path at₀ from₀ m₀ k₀ j₀ at from m k j = length path - j
 
 loop-holds : tie.Need-loop-holds Inv-loop μ-loop
 unfolding counts
-loop-holds c = (omega arith, omega arith, refl, refl, refl)
+loop-holds c =
+    let a = c .before .before .args in
+    (cursor-start (a .levels .now) (a .path .now), refl)
+
+find-child-requires : tie.Need-find-child-requires Inv-loop μ-loop
+find-child-requires c κs =
+    let pre = c .before .before .before .before .before .pre in
+    let a = c .before .before .before .before .before .args in
+    let l = c .before .before .loop in
+    (pre .0, cursor-low (a .levels .now) (a .path .now) (l .j) (l .at) (l .k) (l .m) (l .inv .0), omega (arith, pre .1))
 
 returns : tie.Need-returns Inv-loop μ-loop
 returns c =
-    let l = c .before .before .before .loop in
-    let a = c .before .before .before .before .before .before .args in
-    c .gone-at .ensures ∙ turn-out (a .levels .now) (a .path .now) (l .at) (l .j) (l .k) (omega arith) (c .before .if1 .taken) ∙ ap (placed (a .levels .now)) (l .inv .4)
+    let a = c .before .before .before .before .before .before .before .before .before .before .args in
+    let f = c .before .before .before .before .find-child in
+    let g = c .before .before .found in
+    let l = c .before .before .before .before .before .before .before .loop in
+    c .gone-at .ensures
+    ∙ placed-gone (a .levels .now) (a .path .now) (l .j) (l .at) (l .k) (l .m) (l .inv .0) (omega arith) (f .result) (f .ensures) (g .given .0 .0) (g .given .1)
 
-returns-2 : tie.Need-returns-2 Inv-loop μ-loop
-returns-2 c =
-    let l = c .before .before .before .before .before .loop in
-    let a = c .before .before .before .before .before .before .before .before .args in
-    c .gone-at2 .ensures ∙ turn-stop (a .levels .now) (a .path .now) (l .at) (l .j) (l .k) (omega arith) (omega arith) (c .before .if2 .taken) ∙ ap (placed (a .levels .now)) (l .inv .4)
+mul-m : tie.Need-mul-m Inv-loop μ-loop
+mul-m c =
+    let a = c .before .before .before .before .before .before .before .before .before .args in
+    let f = c .before .before .before .find-child in
+    let g = c .before .found2 in
+    let l = c .before .before .before .before .before .before .loop in
+    omega (arith, found-inside (a .levels .now) (a .path .now) (l .j) (l .at) (l .k) (l .m) (l .inv .0) (omega arith) (f .result) (f .ensures) (g .given .0 .0) (g .given .0 .1 .0) (g .given .1))
 
-returns-3 : tie.Need-returns-3 Inv-loop μ-loop
-returns-3 c =
-    let l = c .before .before .before .before .before .before .before .before .before .loop in
-    let a = c .before .before .before .before .before .before .before .before .before .before .before .before .args in
-    c .gone-at3 .ensures ∙ turn-before (a .levels .now) (a .path .now) (l .at) (l .j) (l .k) (omega arith) (omega arith) (c .before .before .before .before .if3 .taken) (c .before .if5 .taken) ∙ ap (placed (a .levels .now)) (l .inv .4)
+shared-slice-read-m : tie.Need-shared-slice-read-m Inv-loop μ-loop
+shared-slice-read-m c =
+    let a = c .before .before .before .before .before .before .before .before .before .before .args in
+    let f = c .before .before .before .before .find-child in
+    let g = c .before .before .found2 in
+    let l = c .before .before .before .before .before .before .before .loop in
+    found-inside (a .levels .now) (a .path .now) (l .j) (l .at) (l .k) (l .m) (l .inv .0) (omega arith) (f .result) (f .ensures) (g .given .0 .0) (g .given .0 .1 .0) (g .given .1)
 
 add-m : tie.Need-add-m Inv-loop μ-loop
 add-m c =
-    let l = c .before .before .before .before .before .loop in
-    let a = c .before .before .before .before .before .before .before .before .args in
-    omega (arith, l .inv .2, counts-low (a .levels .now) (l .k) 128 (c .before .before .before .before .before .before .before .before .pre))
+    let g = c .before .before .found2 in
+    let pre = c .before .before .before .before .before .before .before .before .before .before .pre in
+    let a = c .before .before .before .before .before .before .before .before .before .before .args in
+    let f = c .before .before .before .before .find-child in
+    let l = c .before .before .before .before .before .before .before .loop in
+    let i = g .given .0 .0 in
+    omega (
+      arith,
+      pre .0,
+      counts-low (a .levels .now) i,
+      found-inside (a .levels .now) (a .path .now) (l .j) (l .at) (l .k) (l .m) (l .inv .0) (omega arith) (f .result) (f .ensures) i (g .given .0 .1 .0) (g .given .1),
+      found-from (a .levels .now) (a .path .now) (l .j) (l .at) (l .k) (l .m) (l .inv .0) (omega arith) (f .result) (f .ensures) i (g .given .0 .1 .0) (g .given .1),
+    )
+
+add-k : tie.Need-add-k Inv-loop μ-loop
+add-k c =
+    let pre = c .before .before .before .before .before .before .before .before .before .before .pre in
+    let a = c .before .before .before .before .before .before .before .before .before .before .args in
+    let f = c .before .before .before .before .find-child in
+    let g = c .before .before .found2 in
+    let l = c .before .before .before .before .before .before .before .loop in
+    omega (
+      arith,
+      pre .0,
+      found-inside (a .levels .now) (a .path .now) (l .j) (l .at) (l .k) (l .m) (l .inv .0) (omega arith) (f .result) (f .ensures) (g .given .0 .0) (g .given .0 .1 .0) (g .given .1),
+    )
 
 loop-again : tie.Need-loop-again Inv-loop μ-loop
 loop-again c =
-    let l = c .before .before .before .before .before .loop in
-    let a = c .before .before .before .before .before .before .before .before .args in
-    ⊎-elim
-    (λ w. (omega arith, omega arith, (ap (λ (n : ℕ). n + countOf (getD (a .levels .now) (l .k) 0)) (l .inv .2) ∙ sym (counts-turn (a .levels .now) (l .k) (omega arith))), rw (w .3, w .4) (l .inv .2), rw (w .3, w .5) (turn-down (a .levels .now) (a .path .now) (l .at) (l .j) (l .k) (omega arith) (omega arith) (w .0 .taken) (w .2 .taken) ∙ l .inv .4)))
-    (⊎-elim
-    (λ w. (omega arith, omega arith, (ap (λ (n : ℕ). n + countOf (getD (a .levels .now) (l .k) 0)) (l .inv .2) ∙ sym (counts-turn (a .levels .now) (l .k) (omega arith))), rw (w .4, w .5) (l .inv .3), rw (w .4, w .6) (turn-other (a .levels .now) (a .path .now) (l .at) (l .j) (l .k) (omega arith) (omega arith) (w .0 .taken) (w .3 .left) (w .2 .left) ∙ l .inv .4)))
-    (λ w. (omega arith, omega arith, (ap (λ (n : ℕ). n + countOf (getD (a .levels .now) (l .k) 0)) (l .inv .2) ∙ sym (counts-turn (a .levels .now) (l .k) (omega arith))), rw (w .1, w .2) (l .inv .3), rw (w .1, w .3) (turn-deep (a .levels .now) (a .path .now) (l .at) (l .j) (l .k) (omega arith) (omega arith) (c .before .if2 .left) (w .0 .left) ∙ l .inv .4))))
-    (c .if3 .came)
+    let a = c .before .before .before .before .before .before .before .before .before .before .args in
+    let f = c .before .before .before .before .find-child in
+    let g = c .before .before .found2 in
+    let l = c .before .before .before .before .before .before .before .loop in (
+      cursor-turn (a .levels .now) (a .path .now) (l .j) (l .at) (l .k) (l .m) (l .inv .0) (omega arith) (f .result) (f .ensures) (g .given .0 .0) (g .given .0 .1 .0) (g .given .1),
+      found-from (a .levels .now) (a .path .now) (l .j) (l .at) (l .k) (l .m) (l .inv .0) (omega arith) (f .result) (f .ensures) (g .given .0 .0) (g .given .0 .1 .0) (g .given .1),
+    )
 
-returns-4 : tie.Need-returns-4 Inv-loop μ-loop
-returns-4 c =
-    let l = c .before .loop in
+returns-2 : tie.Need-returns-2 Inv-loop μ-loop
+returns-2 c =
     let a = c .before .before .before .before .args in
-    ap₂ Placed.Here refl (l .inv .3) ∙ ap (placed (a .levels .now)) (turn-found (a .path .now) (drop (l .k) (a .levels .now)) (l .j) (l .at) (l .j) (l .k) (omega arith) ∙ l .inv .4)
+    let l = c .before .loop in
+    cursor-end (a .levels .now) (a .path .now) (l .j) (l .at) (l .k) (l .m) (l .from) (l .inv .0) (omega arith) (l .inv .1)
 
 pub seek-spec : {M : Type 1} → statement M
 seek-spec =
-    tie.close (tie.spec Inv-loop μ-loop loop-holds (λ c κs. search needs) returns (λ c. search needs) (λ c. search needs) (λ c κs. search needs) returns-2
-    (λ c. search needs) (λ c. search needs) (λ c. search needs) (λ c. search needs) (λ c κs. search needs) returns-3 add-m (λ c. search needs)
-    (λ c. search needs) loop-again returns-4)
+    tie.close (tie.spec Inv-loop μ-loop loop-holds (λ c. search needs) (λ c. search needs) (λ c. search needs) find-child-requires (λ c. search needs)
+    (λ c κs. search needs) returns (λ c. search needs) mul-m shared-slice-read-m add-m add-k (λ c. search needs) (λ c. search needs) loop-again returns-2)

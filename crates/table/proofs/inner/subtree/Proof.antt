@@ -20,7 +20,7 @@ abbrev μ-loop : tie.MeasureT-loop
 
 add-to : tie.Need-add-to Inv-loop μ-loop
 add-to c =
-    let a = c .before .before .args in omega (arith, c .before .before .pre .2, counts-low (a .levels .now) (a .j) 128 (c .before .before .pre .1))
+    let a = c .before .before .args in omega (arith, c .before .before .pre .2, counts-low (a .levels .now) (a .j), c .before .before .pre .1)
 
 loop-holds : tie.Need-loop-holds Inv-loop μ-loop
 unfolding subtreeEnd
@@ -39,7 +39,7 @@ add-to-2 : tie.Need-add-to-2 Inv-loop μ-loop
 add-to-2 c =
     let l = c .before .before .before .before .loop in
     let a = c .before .before .before .before .before .before .before .args in
-    omega (arith, l .inv .2, counts-low (a .levels .now) (l .e) 128 (c .before .before .before .before .before .before .before .pre .1))
+    omega (arith, l .inv .2, counts-low (a .levels .now) (l .e), c .before .before .before .before .before .before .before .pre .1)
 
 loop-again : tie.Need-loop-again Inv-loop μ-loop
 loop-again c =
