@@ -14,7 +14,7 @@
  * Memory that holds no path is refused (26).
  *
  * Answers. A call that can refuse writes KLEM_RESULT words:
- *   result[0]   0: it gives the values; else the number of its refusal: 1 to 31 of the table of refusals, or one of the library's own
+ *   result[0]   0: it gives the values; else the number of its refusal: 1 to 44 of the table of refusals, or one of the library's own
  *   result[1]   the refusal's place, 0 where it has none
  *   result[2..] the values, as each function says; 0 for those that it does not name, and all 0 on a refusal (but see klem_run)
  * and returns result[0]. Where a slice whose length is fixed has another length, the call returns KLEM_BAD_SLICE and writes nothing,
@@ -54,7 +54,7 @@ extern "C" {
 /* The version of this interface. A new number or a new call changes MINOR; what a program must be changed for changes MAJOR, or MINOR
  * while MAJOR is 0. */
 #define KLEM_VERSION_MAJOR 0
-#define KLEM_VERSION_MINOR 6
+#define KLEM_VERSION_MINOR 7
 #define KLEM_VERSION_PATCH 0
 
 /* Lengths of slices */
@@ -112,6 +112,19 @@ extern "C" {
 #define KLEM_BAD_TABLE_LENGTH 29
 #define KLEM_BAD_CHECKSUM 30
 #define KLEM_PACKAGE_ENDS_EARLY 31
+#define KLEM_IMAGE_ENDED_EARLY 32
+#define KLEM_IMAGE_EDITION 33
+#define KLEM_IMAGE_COUNT 34
+#define KLEM_IMAGE_DEPTH 35
+#define KLEM_IMAGE_TYPE 36
+#define KLEM_IMAGE_SEGMENT 37
+#define KLEM_IMAGE_ORDER 38
+#define KLEM_IMAGE_DEEP_BINDINGS 39
+#define KLEM_IMAGE_BINDINGS_OVER 40
+#define KLEM_IMAGE_BINDINGS_SHORT 41
+#define KLEM_IMAGE_HANDLE 42
+#define KLEM_IMAGE_SPARE_BITS 43
+#define KLEM_IMAGE_BYTES_LEFT 44
 
 /* The library's own, apart from the table, which may grow */
 #define KLEM_BAD_SLICE 1001 /* a slice whose length is fixed has another; nothing is written */

@@ -2,7 +2,7 @@
 // least one blank at its end. One table is lent to all: proving a call that lends a text of its own costs as much as six calls that lend none.
 use crate::words;
 
-pub const TEXT: [u8; 4880] = *b"pkg HEX                                 \
+pub const TEXT: [u8; 5400] = *b"pkg HEX                                 \
     raw HEX                                 \
     fit LENGTH RAW                          \
     still END LENGTH                        \
@@ -123,7 +123,20 @@ pub const TEXT: [u8; 4880] = *b"pkg HEX                                 \
     BadSignature                            \
     BadTableLength                          \
     BadChecksum                             \
-    PackageEndsEarly                        ";
+    PackageEndsEarly                        \
+    ImageEndedEarly                         \
+    ImageEdition                            \
+    ImageCount                              \
+    ImageDepth                              \
+    ImageType                               \
+    ImageSegment                            \
+    ImageOrder                              \
+    ImageDeepBindings                       \
+    ImageBindingsOver                       \
+    ImageBindingsShort                      \
+    ImageHandle                             \
+    ImageSpareBits                          \
+    ImageBytesLeft                          ";
 
 // The commands: which row, and how many there are.
 pub const PKG: usize = 0;

@@ -188,6 +188,19 @@ paper-numbered AmlError.BadSignature h = omega arith
 paper-numbered AmlError.BadTableLength h = omega arith
 paper-numbered AmlError.BadChecksum h = omega arith
 paper-numbered (AmlError.PackageEndsEarly p) h = omega arith
+paper-numbered (AmlError.ImageEndedEarly p) h = omega arith
+paper-numbered (AmlError.ImageEdition p) h = omega arith
+paper-numbered (AmlError.ImageCount p) h = omega arith
+paper-numbered (AmlError.ImageDepth p) h = omega arith
+paper-numbered (AmlError.ImageType p) h = omega arith
+paper-numbered (AmlError.ImageSegment p) h = omega arith
+paper-numbered (AmlError.ImageOrder p) h = omega arith
+paper-numbered (AmlError.ImageDeepBindings p) h = omega arith
+paper-numbered (AmlError.ImageBindingsOver p) h = omega arith
+paper-numbered (AmlError.ImageBindingsShort p) h = omega arith
+paper-numbered (AmlError.ImageHandle p) h = omega arith
+paper-numbered (AmlError.ImageSpareBits p) h = omega arith
+paper-numbered (AmlError.ImageBytesLeft p) h = omega arith
 
 pub name-numbered : (s : NameSaid) → Numbered (nameSaid s)
 name-numbered (NameSaid.Used u) = tt

@@ -37,6 +37,19 @@ use Rattle.pkg_length.specs.declared.AmlError.the-variants.{
   BadTableLength,
   BadChecksum,
   PackageEndsEarly,
+  ImageEndedEarly,
+  ImageEdition,
+  ImageCount,
+  ImageDepth,
+  ImageType,
+  ImageSegment,
+  ImageOrder,
+  ImageDeepBindings,
+  ImageBindingsOver,
+  ImageBindingsShort,
+  ImageHandle,
+  ImageSpareBits,
+  ImageBytesLeft,
 }
 use Rattle.pkg_length.specs.Refusal.{Answer, gives, refuses, paper, refused}
 
@@ -50,7 +63,11 @@ caseOf n p =
     (cond (eqb n 16) ValueDoesNotExist (cond (eqb n 17) NameCollision (cond (eqb n 18) LevelsFull (cond (eqb n 19) BindingsFull
     (cond (eqb n 20) ObjectsFull (cond (eqb n 21) NoSuchHandle (cond (eqb n 22) BudgetSpent (cond (eqb n 23) (Unset p) (cond (eqb n 24) BadTable
     (cond (eqb n 25) (OutTooSmall p) (cond (eqb n 26) BadPath (cond (eqb n 27) TableTooShort (cond (eqb n 28) BadSignature
-    (cond (eqb n 29) BadTableLength (cond (eqb n 30) BadChecksum (PackageEndsEarly p))))))))))))))))))))))))))))))
+    (cond (eqb n 29) BadTableLength (cond (eqb n 30) BadChecksum (cond (eqb n 31) (PackageEndsEarly p)
+    (cond (eqb n 32) (ImageEndedEarly p) (cond (eqb n 33) (ImageEdition p) (cond (eqb n 34) (ImageCount p)
+    (cond (eqb n 35) (ImageDepth p) (cond (eqb n 36) (ImageType p) (cond (eqb n 37) (ImageSegment p)
+    (cond (eqb n 38) (ImageOrder p) (cond (eqb n 39) (ImageDeepBindings p) (cond (eqb n 40) (ImageBindingsOver p)
+    (cond (eqb n 41) (ImageBindingsShort p) (cond (eqb n 42) (ImageHandle p) (cond (eqb n 43) (ImageSpareBits p) (ImageBytesLeft p)))))))))))))))))))))))))))))))))))))))))))
 
 pub case-is : (e : AmlError) → caseOf (paper e .0) (paper e .1) ≡ e
 unfolding caseOf
@@ -85,6 +102,19 @@ case-is BadSignature = refl
 case-is BadTableLength = refl
 case-is BadChecksum = refl
 case-is (PackageEndsEarly p) = refl
+case-is (ImageEndedEarly p) = refl
+case-is (ImageEdition p) = refl
+case-is (ImageCount p) = refl
+case-is (ImageDepth p) = refl
+case-is (ImageType p) = refl
+case-is (ImageSegment p) = refl
+case-is (ImageOrder p) = refl
+case-is (ImageDeepBindings p) = refl
+case-is (ImageBindingsOver p) = refl
+case-is (ImageBindingsShort p) = refl
+case-is (ImageHandle p) = refl
+case-is (ImageSpareBits p) = refl
+case-is (ImageBytesLeft p) = refl
 
 -- equal number and place, equal case
 pub paper-one : (a b : AmlError) → paper a ≡ paper b → a ≡ b

@@ -34,6 +34,19 @@ use Rattle.pkg_length.specs.declared.AmlError.the-variants.{
   BadTableLength,
   BadChecksum,
   PackageEndsEarly,
+  ImageEndedEarly,
+  ImageEdition,
+  ImageCount,
+  ImageDepth,
+  ImageType,
+  ImageSegment,
+  ImageOrder,
+  ImageDeepBindings,
+  ImageBindingsOver,
+  ImageBindingsShort,
+  ImageHandle,
+  ImageSpareBits,
+  ImageBytesLeft,
 }
 
 -- a call gives a value, or refuses with a number at a place
@@ -79,6 +92,19 @@ paper BadSignature = (28, 0)
 paper BadTableLength = (29, 0)
 paper BadChecksum = (30, 0)
 paper (PackageEndsEarly p) = (31, p)
+paper (ImageEndedEarly p) = (32, p)
+paper (ImageEdition p) = (33, p)
+paper (ImageCount p) = (34, p)
+paper (ImageDepth p) = (35, p)
+paper (ImageType p) = (36, p)
+paper (ImageSegment p) = (37, p)
+paper (ImageOrder p) = (38, p)
+paper (ImageDeepBindings p) = (39, p)
+paper (ImageBindingsOver p) = (40, p)
+paper (ImageBindingsShort p) = (41, p)
+paper (ImageHandle p) = (42, p)
+paper (ImageSpareBits p) = (43, p)
+paper (ImageBytesLeft p) = (44, p)
 
 -- a refusal of the code, as the paper states it
 abbrev pub refused : {A : Type 0} → AmlError → Answer A

@@ -40,6 +40,19 @@ pub enum AmlError {
     BadTableLength,
     BadChecksum,
     PackageEndsEarly(usize),
+    ImageEndedEarly(usize),
+    ImageEdition(usize),
+    ImageCount(usize),
+    ImageDepth(usize),
+    ImageType(usize),
+    ImageSegment(usize),
+    ImageOrder(usize),
+    ImageDeepBindings(usize),
+    ImageBindingsOver(usize),
+    ImageBindingsShort(usize),
+    ImageHandle(usize),
+    ImageSpareBits(usize),
+    ImageBytesLeft(usize),
 }
 
 // A refusal as the table numbers it: the number, and the place, 0 where the table gives none.
@@ -81,6 +94,19 @@ impl AmlError {
             AmlError::BadTableLength => Refusal(29, 0),
             AmlError::BadChecksum => Refusal(30, 0),
             AmlError::PackageEndsEarly(needed) => Refusal(31, needed),
+            AmlError::ImageEndedEarly(at) => Refusal(32, at),
+            AmlError::ImageEdition(at) => Refusal(33, at),
+            AmlError::ImageCount(at) => Refusal(34, at),
+            AmlError::ImageDepth(at) => Refusal(35, at),
+            AmlError::ImageType(at) => Refusal(36, at),
+            AmlError::ImageSegment(at) => Refusal(37, at),
+            AmlError::ImageOrder(at) => Refusal(38, at),
+            AmlError::ImageDeepBindings(at) => Refusal(39, at),
+            AmlError::ImageBindingsOver(at) => Refusal(40, at),
+            AmlError::ImageBindingsShort(at) => Refusal(41, at),
+            AmlError::ImageHandle(at) => Refusal(42, at),
+            AmlError::ImageSpareBits(at) => Refusal(43, at),
+            AmlError::ImageBytesLeft(at) => Refusal(44, at),
         }
     }
 }

@@ -23,7 +23,7 @@ module _ (limit : ℕ) (live : ℕ → Bool) (hm : Small live) where
     rest : drop (length b) (map bindWord b ++ X) ≡ X
     rest = drop-at (map bindWord b) X (length b) (length-map b bindWord)
 
-    scan-level : scan limit live p low (pack r t (length b) s ∷ W) (map bindWord b ++ X) ≡ scan limit live r (set (set low r (s + 1)) (r + 1) 0) W X
+    pub scan-level : scan limit live p low (pack r t (length b) s ∷ W) (map bindWord b ++ X) ≡ scan limit live r (set (set low r (s + 1)) (r + 1) 0) W X
     scan-level =
         let rk = rank-pack r t (length b) s (f .small) (f .few) (f .fits) in
         let tk = type-pack r t (length b) s (f .small) (f .few) (f .fits) in

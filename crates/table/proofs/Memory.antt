@@ -58,7 +58,7 @@ module _ (A B C ws : List ℕ) (a b : ℕ) (e : ws ≡ A ++ (B ++ C)) (ha : leng
   pub part-third : drop (a + b) ws ≡ C
   part-third = sym (drop-drop b a ws) ∙ rw rest-first (drop-at B C b hb)
 
-bound-back : (limit : ℕ) (live : ℕ → Bool) (r lo : ℕ) (f : Forest) → Small live → Valid limit live r lo f → map bindingOf (map bindWord (bound f)) ≡ bound f
+pub bound-back : (limit : ℕ) (live : ℕ → Bool) (r lo : ℕ) (f : Forest) → Small live → Valid limit live r lo f → map bindingOf (map bindWord (bound f)) ≡ bound f
 unfolding bound
 bound-back limit live r lo none h v = refl
 bound-back limit live r lo (level s t b kids next) h v =

@@ -1,6 +1,6 @@
 use core::fmt;
 
-/// A refusal: the 31 of the table of refusals, under its names and in its order, each with its place where the table gives one; and the
+/// A refusal: the 44 of the table of refusals, under its names and in its order, each with its place where the table gives one; and the
 /// one number of the archive's own that a call of this crate can give.
 ///
 /// [`number`](Error::number) gives the number, [`place`](Error::place) the place, 0 where there is none. docs/REFUSALS.md
@@ -73,6 +73,32 @@ pub enum Error {
     /// 31: a package ends before its contents; the offset of the first byte beyond its end that was needed, or of its lead byte where it is
     /// shorter than its own length bytes.
     PackageEndsEarly(usize),
+    /// 32: an image ends before the end of a field; the place of the field in bits. No call of this crate gives it yet.
+    ImageEndedEarly(usize),
+    /// 33: an image's edition is none that is known; the place of the field in bits. No call of this crate gives it yet.
+    ImageEdition(usize),
+    /// 34: a count in an image's header is over its limit; the place of the field in bits. No call of this crate gives it yet.
+    ImageCount(usize),
+    /// 35: a depth in an image is 0, over 31 or more than one below the record before; the place of the field in bits. No call of this crate gives it yet.
+    ImageDepth(usize),
+    /// 36: a level's type in an image is over 5; the place of the field in bits. No call of this crate gives it yet.
+    ImageType(usize),
+    /// 37: a segment in an image is none; the place of the field in bits. No call of this crate gives it yet.
+    ImageSegment(usize),
+    /// 38: segments in an image do not rise; the place of the field in bits. No call of this crate gives it yet.
+    ImageOrder(usize),
+    /// 39: a level of an image at depth 31 has bindings; the place of the field in bits. No call of this crate gives it yet.
+    ImageDeepBindings(usize),
+    /// 40: a level's bindings in an image pass the header's count; the place of the field in bits. No call of this crate gives it yet.
+    ImageBindingsOver(usize),
+    /// 41: the last level's bindings in an image fall short of the header's count; the place of the field in bits. No call of this crate gives it yet.
+    ImageBindingsShort(usize),
+    /// 42: a handle in an image is not below the count of objects; the place of the field in bits. No call of this crate gives it yet.
+    ImageHandle(usize),
+    /// 43: spare bits of an image are set; the place of the field in bits. No call of this crate gives it yet.
+    ImageSpareBits(usize),
+    /// 44: bytes are left behind an image; the place of the field in bits. No call of this crate gives it yet.
+    ImageBytesLeft(usize),
     /// 1003: a frame has no such cell to set; its number. It is the archive's own, and not in the table of refusals.
     BadCell(usize),
     /// Any other number. No call of this crate gives it while the archive is the one that the crate was written for: the archive's own
@@ -115,6 +141,19 @@ impl Error {
             29 => Error::BadTableLength,
             30 => Error::BadChecksum,
             31 => Error::PackageEndsEarly(place),
+            32 => Error::ImageEndedEarly(place),
+            33 => Error::ImageEdition(place),
+            34 => Error::ImageCount(place),
+            35 => Error::ImageDepth(place),
+            36 => Error::ImageType(place),
+            37 => Error::ImageSegment(place),
+            38 => Error::ImageOrder(place),
+            39 => Error::ImageDeepBindings(place),
+            40 => Error::ImageBindingsOver(place),
+            41 => Error::ImageBindingsShort(place),
+            42 => Error::ImageHandle(place),
+            43 => Error::ImageSpareBits(place),
+            44 => Error::ImageBytesLeft(place),
             1003 => Error::BadCell(place),
             other => Error::NotInTable(other),
         }
@@ -155,6 +194,19 @@ impl Error {
             Error::BadTableLength => 29,
             Error::BadChecksum => 30,
             Error::PackageEndsEarly(_) => 31,
+            Error::ImageEndedEarly(_) => 32,
+            Error::ImageEdition(_) => 33,
+            Error::ImageCount(_) => 34,
+            Error::ImageDepth(_) => 35,
+            Error::ImageType(_) => 36,
+            Error::ImageSegment(_) => 37,
+            Error::ImageOrder(_) => 38,
+            Error::ImageDeepBindings(_) => 39,
+            Error::ImageBindingsOver(_) => 40,
+            Error::ImageBindingsShort(_) => 41,
+            Error::ImageHandle(_) => 42,
+            Error::ImageSpareBits(_) => 43,
+            Error::ImageBytesLeft(_) => 44,
             Error::BadCell(_) => 1003,
             Error::NotInTable(other) => other,
         }
@@ -173,6 +225,19 @@ impl Error {
             | Error::LevelDoesNotExist(place)
             | Error::Unset(place)
             | Error::PackageEndsEarly(place)
+            | Error::ImageEndedEarly(place)
+            | Error::ImageEdition(place)
+            | Error::ImageCount(place)
+            | Error::ImageDepth(place)
+            | Error::ImageType(place)
+            | Error::ImageSegment(place)
+            | Error::ImageOrder(place)
+            | Error::ImageDeepBindings(place)
+            | Error::ImageBindingsOver(place)
+            | Error::ImageBindingsShort(place)
+            | Error::ImageHandle(place)
+            | Error::ImageSpareBits(place)
+            | Error::ImageBytesLeft(place)
             | Error::OutTooSmall(place)
             | Error::BadCell(place) => place,
             _ => 0,
@@ -214,6 +279,19 @@ impl Error {
             Error::BadTableLength => "BadTableLength",
             Error::BadChecksum => "BadChecksum",
             Error::PackageEndsEarly(_) => "PackageEndsEarly",
+            Error::ImageEndedEarly(_) => "ImageEndedEarly",
+            Error::ImageEdition(_) => "ImageEdition",
+            Error::ImageCount(_) => "ImageCount",
+            Error::ImageDepth(_) => "ImageDepth",
+            Error::ImageType(_) => "ImageType",
+            Error::ImageSegment(_) => "ImageSegment",
+            Error::ImageOrder(_) => "ImageOrder",
+            Error::ImageDeepBindings(_) => "ImageDeepBindings",
+            Error::ImageBindingsOver(_) => "ImageBindingsOver",
+            Error::ImageBindingsShort(_) => "ImageBindingsShort",
+            Error::ImageHandle(_) => "ImageHandle",
+            Error::ImageSpareBits(_) => "ImageSpareBits",
+            Error::ImageBytesLeft(_) => "ImageBytesLeft",
             Error::BadCell(_) => "BadCell",
             Error::NotInTable(_) => "NotInTable",
         }

@@ -11,7 +11,7 @@ pub(crate) const WIDTH_AT: usize = 30;
 pub(crate) const HEADER: usize = 36;
 
 /// The last number of the table of refusals.
-pub(crate) const REFUSALS: u64 = 31;
+pub(crate) const REFUSALS: u64 = 44;
 
 // The numbers of the archive's own. Slices of a fixed length, the type of a level and the width of a frame make all but the third impossible
 // here, so that only the tests name them.

@@ -1,0 +1,13 @@
+pub mod Fields
+pub mod Ink
+pub mod Checks
+pub mod Rooms
+pub mod Contents
+pub mod Written
+pub mod Steps
+pub mod Again
+pub mod Laws
+pub mod Filling
+pub mod Saving
+pub mod Reading
+pub mod RoundTrip
