@@ -76,7 +76,7 @@ extern "C" {
 #define KLEM_BLOCK_BYTES 65536   /* bytes of a block, and of the input of klem_pkg_length and klem_raw_pkg_length */
 #define KLEM_TEXT_BYTES 159      /* bytes of the longest text of a path, without an end mark */
 #define KLEM_DEPTH 16            /* how deep statements and terms may stand in each other */
-#define KLEM_STACK 7680          /* bytes of stack that a check or a run needs at the most */
+#define KLEM_STACK 8704          /* bytes of stack that a check or a run needs at the most */
 #define KLEM_STACK_OTHER 3000    /* bytes of stack that any other call needs at the most */
 
 /* The table of refusals */
