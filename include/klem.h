@@ -54,7 +54,7 @@ extern "C" {
 /* The version of this interface. A new number or a new call changes MINOR; what a program must be changed for changes MAJOR, or MINOR
  * while MAJOR is 0. */
 #define KLEM_VERSION_MAJOR 0
-#define KLEM_VERSION_MINOR 7
+#define KLEM_VERSION_MINOR 8
 #define KLEM_VERSION_PATCH 0
 
 /* Lengths of slices */
@@ -75,6 +75,7 @@ extern "C" {
 #define KLEM_OBJECTS 512         /* objects of a table */
 #define KLEM_BLOCK_BYTES 65536   /* bytes of a block, and of the input of klem_pkg_length and klem_raw_pkg_length */
 #define KLEM_TEXT_BYTES 159      /* bytes of the longest text of a path, without an end mark */
+#define KLEM_IMAGE_BYTES 7599    /* bytes of the largest image of a table */
 #define KLEM_DEPTH 16            /* how deep statements and terms may stand in each other */
 #define KLEM_STACK 8704          /* bytes of stack that a check or a run needs at the most */
 #define KLEM_STACK_OTHER 3000    /* bytes of stack that any other call needs at the most */
@@ -254,6 +255,12 @@ uint64_t klem_search_for_level(const uint64_t *table, size_t table_len, const ui
  * those below it, siblings in byte order, the root with depth 0 and four zero bytes. What follows them stays. At most KLEM_LEVELS words are needed.
  * values: how many were written. refuses: 24, 26, 11, 10, 15, 25 (they do not fit; the place is how many there are, and list stays) */
 uint64_t klem_levels(const uint64_t *table, size_t table_len, const uint8_t *path, size_t path_len, uint64_t *list, size_t list_len, uint64_t *result, size_t result_len);
+/* writes the table's image (docs/IMAGE.md) to the start of out; what follows it stays. Equal tables have equal images, and KLEM_IMAGE_BYTES hold every one.
+ * values: the bytes written. refuses: 24, 25 (it does not fit; out stays) */
+uint64_t klem_image_write(const uint64_t *table, size_t table_len, uint8_t *out, size_t out_len, uint64_t *result, size_t result_len);
+/* makes the table of an image, whatever the words held. values: how many levels it has, the root not counted, how many bindings, how many objects.
+ * refuses: 24 (the length alone), then 32 to 44, the first fault from left to right; its place is the field's first bit */
+uint64_t klem_image_read(const uint8_t *bytes, size_t bytes_len, uint64_t *table, size_t table_len, uint64_t *result, size_t result_len);
 
 /* Control blocks, of at most 65,536 bytes, and frames.
  * A frame has KLEM_CELLS cells: from KLEM_LOCAL0 eight Locals, from KLEM_ARG0 seven Args. Word c is 0 where cell c is unset, and

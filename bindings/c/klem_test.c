@@ -182,6 +182,7 @@ static uint64_t search(const char *name, const char *scope, uint8_t *out) {
 static void tables(void) {
     uint8_t out[KLEM_PATH];
     uint64_t list[4];
+    uint8_t image[46];
     static uint64_t before[KLEM_TABLE];
 
     MUST(!klem_well_formed(table, KLEM_TABLE));
@@ -212,6 +213,23 @@ static void tables(void) {
     MUST(KLEM_LEVEL_DEPTH(list[2]) == 2 && KLEM_LEVEL_TYPE(list[2]) == KLEM_DEVICE && KLEM_LEVEL_BYTE(list[2], 0) == 'B' && KLEM_LEVEL_BYTE(list[2], 3) == '_');
     GIVES(1, 0, 0, klem_levels(table, KLEM_TABLE, path("\\A.B").bytes, KLEM_PATH, list, 1, r, KLEM_RESULT));
     MUST(KLEM_LEVEL_DEPTH(list[0]) == 2);
+
+    memset(image, 7, sizeof image);
+    REFUSES(KLEM_OUT_TOO_SMALL, 0, klem_image_write(table, KLEM_TABLE, image, 44, r, KLEM_RESULT));
+    REFUSES(KLEM_BAD_TABLE, 0, klem_image_write(table, KLEM_TABLE - 1, image, 46, r, KLEM_RESULT));
+    MUST(image[0] == 7);
+    GIVES(45, 0, 0, klem_image_write(table, KLEM_TABLE, image, 46, r, KLEM_RESULT));
+    MUST(image[0] == 0x10 && image[1] == 0x20 && image[2] == 0x08 && image[3] == 0x02 && image[44] == 0x60 && image[45] == 7);
+    REFUSES_EDIT(KLEM_IMAGE_BYTES_LEFT, 360, klem_image_read(image, 46, table, KLEM_TABLE, r, KLEM_RESULT));
+    REFUSES_EDIT(KLEM_IMAGE_ENDED_EARLY, 292, klem_image_read(image, 44, table, KLEM_TABLE, r, KLEM_RESULT));
+    REFUSES_EDIT(KLEM_BAD_TABLE, 0, klem_image_read(image, 45, table, KLEM_TABLE - 1, r, KLEM_RESULT));
+    image[44] |= 1;
+    REFUSES_EDIT(KLEM_IMAGE_SPARE_BITS, 356, klem_image_read(image, 45, table, KLEM_TABLE, r, KLEM_RESULT));
+    image[44] &= 0xFE;
+    memcpy(before, table, sizeof table);
+    memset(table, 0xA5, sizeof table);
+    GIVES(2, 2, 2, klem_image_read(image, 45, table, KLEM_TABLE, r, KLEM_RESULT));
+    MUST(memcmp(before, table, sizeof table) == 0);
 
     REFUSES_EDIT(KLEM_LEVEL_DOES_NOT_EXIST, 2, add_level("\\A.Q.R", KLEM_SCOPE));
     REFUSES_EDIT(KLEM_NAME_COLLISION, 0, add_value("\\A.X", 9));
@@ -444,6 +462,8 @@ static void nulls(void) {
     REFUSES(KLEM_BAD_TABLE, 0, klem_table_new(NULL, 0, r, KLEM_RESULT));
     REFUSES(KLEM_BAD_TABLE, 0, klem_add_level(NULL, 0, p.bytes, KLEM_PATH, KLEM_SCOPE, r, KLEM_RESULT));
     REFUSES(KLEM_BAD_TABLE, 0, klem_get(NULL, 0, 0, r, KLEM_RESULT));
+    REFUSES(KLEM_BAD_TABLE, 0, klem_image_write(NULL, 0, NULL, 0, r, KLEM_RESULT));
+    REFUSES(KLEM_BAD_TABLE, 0, klem_image_read(NULL, 0, NULL, 0, r, KLEM_RESULT));
     GIVES(0, 0, 0, klem_check(NULL, 0, r, KLEM_RESULT));
     GIVES(0, 0, 0, klem_frame_new(frame, KLEM_FRAME, KLEM_BITS32, r, KLEM_RESULT));
     GIVES(KLEM_FINISHED, 0, 0, klem_run(NULL, 0, frame, KLEM_FRAME, 9, r, KLEM_RESULT));
@@ -459,6 +479,7 @@ static struct {
     uint8_t input[8], seg[KLEM_SEGMENT + 1], bytes[KLEM_COMPONENT_BYTES + 1], text[KLEM_TEXT_BYTES];
     uint8_t out[KLEM_PATH + 1], path[KLEM_PATH + 1], scope[KLEM_PATH + 1], target[KLEM_PATH + 1];
     uint64_t list[KLEM_LEVELS];
+    uint8_t image[6];
 } m, kept;
 
 #define UNTOUCHED(call)                           \
@@ -498,6 +519,7 @@ static void misuse(void) {
     memset(m.result, 0xA5, sizeof m.result);
     memset(m.out, 0xA5, sizeof m.out);
     memset(m.text, 0xA5, sizeof m.text);
+    m.image[0] = 0x10;
     m.frame[0] = 77;
     m.frame[KLEM_WIDTH_AT] = KLEM_BITS64;
     MUST(klem_table_new(T, r, KLEM_RESULT) == KLEM_OK);
@@ -569,6 +591,8 @@ static void misuse(void) {
     WRONG(KLEM_PATH, klem_search_for_level(T, TARGET, SCOPE, m.out, n, R));
     WRONG(KLEM_RESULT, klem_levels(T, TARGET, m.list, KLEM_LEVELS, RN));
     WRONG(KLEM_PATH, klem_levels(T, m.target, n, m.list, KLEM_LEVELS, R));
+    WRONG(KLEM_RESULT, klem_image_write(T, m.text, sizeof m.text, RN));
+    WRONG(KLEM_RESULT, klem_image_read(m.image, sizeof m.image, T, RN));
 
     WRONG(KLEM_RESULT, klem_check(INPUT, RN));
     WRONG(KLEM_RESULT, klem_run(INPUT, FRAME, 9, RN));

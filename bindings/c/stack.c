@@ -18,6 +18,8 @@ static uint64_t r[KLEM_RESULT], table[KLEM_TABLE], frame[KLEM_FRAME];
 static uint8_t a[KLEM_PATH], b[KLEM_PATH], out[KLEM_PATH], text[KLEM_TEXT_BYTES];
 static uint8_t block[4096];
 static uint64_t list[KLEM_LEVELS];
+static uint8_t image[KLEM_IMAGE_BYTES];
+static size_t image_len;
 static size_t block_len;
 
 static size_t used_by(void (*call)(void)) {
@@ -46,6 +48,11 @@ static void aliases(void) { klem_add_alias_at_resolved_path(table, KLEM_TABLE, b
 static void searches(void) { klem_search(table, KLEM_TABLE, b, KLEM_PATH, a, KLEM_PATH, out, KLEM_PATH, r, KLEM_RESULT); }
 static void level_searches(void) { klem_search_for_level(table, KLEM_TABLE, b, KLEM_PATH, a, KLEM_PATH, out, KLEM_PATH, r, KLEM_RESULT); }
 static void lists(void) { klem_levels(table, KLEM_TABLE, a, KLEM_PATH, list, KLEM_LEVELS, r, KLEM_RESULT); }
+static void saves(void) {
+    klem_image_write(table, KLEM_TABLE, image, sizeof image, r, KLEM_RESULT);
+    image_len = (size_t)r[2];
+}
+static void loads(void) { klem_image_read(image, image_len, table, KLEM_TABLE, r, KLEM_RESULT); }
 static void gets(void) { klem_set_by_path(table, KLEM_TABLE, a, KLEM_PATH, 1, r, KLEM_RESULT); }
 static void removes(void) { klem_remove_level(table, KLEM_TABLE, a, KLEM_PATH, r, KLEM_RESULT); }
 static void checks(void) { klem_check(block, block_len, r, KLEM_RESULT); }
@@ -118,6 +125,8 @@ int main(void) {
     say("search", searches, MOST_OTHER);
     say("search level", level_searches, MOST_OTHER);
     say("levels", lists, MOST_OTHER);
+    say("image written", saves, MOST_OTHER);
+    say("image read", loads, MOST_OTHER);
     say("set by path", gets, MOST_OTHER);
     say("remove level", removes, MOST_OTHER);
     /* the deepest block that runs, at both widths, and three that are refused for one level more: of terms, of statements, of both */

@@ -106,6 +106,12 @@ pub edited-alone : {A : Type 0} (f : A → List ℕ) (result table : List ℕ) {
     wordsOf t ≡ resultOf (valued f s) → record { words = table′; said = s } ≡ l → record { number = r; result = result′; lent = table′ } ≡ lefts (sized resultWords result) result table f l
 edited-alone f result table t q h w e = rw (and-true (sized resultWords result)) at (edited true result table t (and-true (sized resultWords result) ∙ q) h f w (λ x. e))
 
+-- bytes that are written without a path
+pub written-alone : (result lent : List ℕ) {r : ℕ} {result′ lent′ : List ℕ} (t : Reply) {s : Answer ℕ} {x : Wrote} →
+    sized resultWords result ≡ true → record { number = r; result = result′; lent = [] } ≡ leaves (sized resultWords result && true) result [] (wordsOf t) [] →
+    wordsOf t ≡ resultOf (valued one s) → record { out = lent′; said = s } ≡ x → record { number = r; result = result′; lent = lent′ } ≡ texts (sized resultWords result) result lent x
+written-alone result lent t q h w e = rw (and-true (sized resultWords result)) at (written true result lent t (and-true (sized resultWords result) ∙ q) h w (λ y. e))
+
 -- the path is written where the slices fit and the number is 0
 pub two-tests : (x y z n : Bool) (new old : List ℕ) → cond (y && (x && ((y && z) && n))) new old ≡ cond (x && (y && z)) (cond n new old) old
 two-tests true true true n new old = refl

@@ -5,4 +5,5 @@ pub mod Frames
 pub mod Lengths
 pub mod Tables
 pub mod Levels
+pub mod Images
 pub mod Blocks

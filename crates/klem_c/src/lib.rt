@@ -2,6 +2,7 @@
 pub mod blocks;
 mod frames;
 pub mod headers;
+pub mod images;
 pub mod lengths;
 pub mod levels;
 pub mod names;

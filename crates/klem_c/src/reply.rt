@@ -12,6 +12,7 @@ ghost use Rattle.path.specs.Text.{textSaid};
 ghost use Rattle.namespace.specs.Calls.{editSaid, valueSaid, handleSaid};
 ghost use Rattle.namespace.specs.Search.{searchSaid, levelSaid};
 ghost use Rattle.namespace.specs.Levels.{levelsSaid};
+ghost use Rattle.image.specs.Calls as saves;
 ghost use Rattle.grammar.specs.Grammar.{cells};
 ghost use Rattle.statement.specs.Frames.{cellSaid};
 ghost use Rattle.grammar.specs.Promise.{checkSaid};
@@ -22,6 +23,7 @@ ghost use Rattle.klem_c.specs.Headers.{signatureNumber, headerWords};
 ghost use Rattle.klem_c.specs.Lengths.{rawWords, lengthWords, pkgWords};
 ghost use Rattle.klem_c.specs.Tables.{hitWords};
 ghost use Rattle.klem_c.specs.Blocks.{runWords};
+ghost use Rattle.klem_c.specs.Images.{countsWords};
 ghost use Rattle.klem_c.specs.Frames.{isWidth};
 use crate::frames;
 use crate::slices;
@@ -29,6 +31,7 @@ use grammar::CheckAnswer;
 use header::HeaderAnswer;
 use header::Signature;
 use header::WriteAnswer;
+use image::ReadAnswer;
 use name_object::AmlName;
 use name_object::NameSaid;
 use namespace::EditAnswer;
@@ -233,6 +236,24 @@ pub(crate) fn levels(a: LevelsAnswer) -> Reply
     match a {
         LevelsAnswer::Written(n) => given(n as u64, 0, 0),
         LevelsAnswer::Refused(e) => refusal(e),
+    }
+}
+
+pub(crate) fn saved(a: image::WriteAnswer) -> Reply
+    ensures { λ r. ⌜ wordsOf r ≡ resultOf (valued one (saves.writeSaid a)) ⌝ }
+{
+    match a {
+        image::WriteAnswer::Length(n) => given(n as u64, 0, 0),
+        image::WriteAnswer::Refused(e) => refusal(e),
+    }
+}
+
+pub(crate) fn loaded(a: ReadAnswer) -> Reply
+    ensures { λ r. ⌜ wordsOf r ≡ resultOf (valued countsWords (saves.readSaid a)) ⌝ }
+{
+    match a {
+        ReadAnswer::Read(c) => given(c.levels as u64, c.bindings as u64, c.objects as u64),
+        ReadAnswer::Refused(e) => refusal(e),
     }
 }
 

@@ -7,7 +7,7 @@
 //! - package lengths: [`pkg_length()`], [`raw_pkg_length`], [`PkgLength`]
 //! - whole tables: [`Header`], [`write_table`]
 //! - names and paths: [`Path`], [`name_string`]
-//! - the namespace: [`Table`], in memory that it owns or is lent
+//! - the namespace: [`Table`], in memory that it owns or is lent, saved as an image and loaded
 //! - control blocks: [`check`], [`run`], [`Frame`], [`Width`]
 //!
 //! # Errors
@@ -44,7 +44,7 @@ pub use error::Error;
 pub use header::{write_table, Header, Signature};
 pub use path::{is_digit_char, is_lead_name_char, is_name_char, name_string, Component, Path, Text};
 pub use pkg::{pkg_length, raw_pkg_length, PkgLength};
-pub use table::{Found, FoundLevel, Handle, Level, LevelType, Levels, Table};
+pub use table::{Counts, Found, FoundLevel, Handle, Level, LevelType, Levels, Table};
 
 // The page's code is a test.
 #[cfg(doctest)]

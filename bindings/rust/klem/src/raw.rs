@@ -67,6 +67,8 @@ extern "C" {
     pub(crate) fn klem_search(table: *const u64, table_len: usize, path: *const u8, path_len: usize, scope: *const u8, scope_len: usize, out: *mut u8, out_len: usize, result: *mut u64, result_len: usize) -> u64;
     pub(crate) fn klem_search_for_level(table: *const u64, table_len: usize, path: *const u8, path_len: usize, scope: *const u8, scope_len: usize, out: *mut u8, out_len: usize, result: *mut u64, result_len: usize) -> u64;
     pub(crate) fn klem_levels(table: *const u64, table_len: usize, path: *const u8, path_len: usize, list: *mut u64, list_len: usize, result: *mut u64, result_len: usize) -> u64;
+    pub(crate) fn klem_image_write(table: *const u64, table_len: usize, out: *mut u8, out_len: usize, result: *mut u64, result_len: usize) -> u64;
+    pub(crate) fn klem_image_read(bytes: *const u8, bytes_len: usize, table: *mut u64, table_len: usize, result: *mut u64, result_len: usize) -> u64;
 
     pub(crate) fn klem_check(block: *const u8, block_len: usize, result: *mut u64, result_len: usize) -> u64;
     pub(crate) fn klem_run(block: *const u8, block_len: usize, frame: *mut u64, frame_len: usize, budget: u64, result: *mut u64, result_len: usize) -> u64;

@@ -131,6 +131,17 @@ impl fmt::Debug for Levels {
     }
 }
 
+/// What an image held.
+#[derive(Clone, Copy, PartialEq, Eq, Hash, Debug)]
+pub struct Counts {
+    /// The levels, without the root.
+    pub levels: usize,
+    /// The bindings.
+    pub bindings: usize,
+    /// The objects.
+    pub objects: usize,
+}
+
 /// A namespace in 1,153 words of memory: levels, values, aliases, lookup and search.
 ///
 /// `M` is where the words are: `[u64; 1153]` (the default: the table owns them, and [`Table::new`] is a constant, for a `static`),
@@ -169,6 +180,9 @@ const FRESH: [u64; TABLE] = {
 impl Table {
     /// How many words a table has.
     pub const WORDS: usize = TABLE;
+
+    /// How many bytes the largest [image](Table::image) of a table has: one with 127 levels below the root, 512 bindings and 512 objects.
+    pub const IMAGE_BYTES: usize = 7599;
 
     /// A fresh table that owns its words: the root, and nothing else. It is a constant, so that a kernel can have it as a `static`
     /// and need not have 9 KB of stack for it.
@@ -319,6 +333,35 @@ impl<M: AsRef<[u64]>> Table<M> {
         levels.count = size(count);
         Ok(levels)
     }
+
+    /// Writes the table's image to the start of `out`, and gives how many bytes it is; what follows it stays. Equal tables have equal
+    /// images (docs/IMAGE.md has the format), and [`Table::IMAGE_BYTES`] hold every one.
+    ///
+    /// ```
+    /// use klem::{Error, Table};
+    ///
+    /// let mut table = Table::new();
+    /// table.add_value(&"\\_UID".parse()?, 7)?;
+    /// let mut room = [0; Table::IMAGE_BYTES];
+    /// let n = table.image(&mut room)?;
+    ///
+    /// let mut other = Table::new();
+    /// assert_eq!(other.load(&room[..n])?.bindings, 1);
+    /// assert_eq!(other, table);
+    /// assert_eq!(other.load(&room[..n - 1]), Err(Error::ImageEndedEarly(84)));
+    /// # Ok::<(), klem::Error>(())
+    /// ```
+    ///
+    /// # Errors
+    ///
+    /// 24 [`Error::BadTable`], 25 [`Error::OutTooSmall`].
+    #[inline]
+    pub fn image(&self, out: &mut [u8]) -> Result<usize, Error> {
+        let t = self.words();
+        // SAFETY: as above; `out` comes with its length, and may be written, since it is lent as `&mut`.
+        let [bytes, _, _] = unsafe { raw::ask(|a| raw::klem_image_write(t.as_ptr(), t.len(), out.as_mut_ptr(), out.len(), a, RESULT)) }?;
+        Ok(size(bytes))
+    }
 }
 
 impl<M: AsRef<[u64]>> fmt::Debug for Table<M> {
@@ -359,6 +402,22 @@ impl<M: AsMut<[u64]>> Table<M> {
         // SAFETY: one call, with the result's words as they are given here; the words come with their length, and may be written, since
         // they are lent as `&mut`.
         unsafe { raw::ask(|a| raw::klem_table_new(t.as_mut_ptr(), t.len(), a, RESULT)) }.map(|_| ())
+    }
+
+    /// Makes the table of an [image](Table::image), and gives what it held. What the words hold does not matter; a refusal leaves them as
+    /// they were. Every byte of the image is tested before a word is written: an image that is read is what `image` writes of the table.
+    ///
+    /// # Errors
+    ///
+    /// 24 [`Error::BadTable`], where the table has not 1,153 words; then 32 [`Error::ImageEndedEarly`] to 44 [`Error::ImageBytesLeft`], the
+    /// first fault from left to right, with the place of its field's first bit.
+    #[inline]
+    pub fn load(&mut self, image: &[u8]) -> Result<Counts, Error> {
+        let t = self.words_mut();
+        // SAFETY: as above; the image comes with its length, and is only read.
+        let [levels, bindings, objects] =
+            unsafe { raw::ask(|a| raw::klem_image_read(image.as_ptr(), image.len(), t.as_mut_ptr(), t.len(), a, RESULT)) }?;
+        Ok(Counts { levels: size(levels), bindings: size(bindings), objects: size(objects) })
     }
 
     /// Adds a level at an absolute path; `\`, and a level that is there, are left as they are.

@@ -1,6 +1,6 @@
 //! Document 01's worked cases, with the answers that it gives, through the archive; the twelve with a P are its proved ones.
 use klem::{
-    check, is_digit_char, is_lead_name_char, is_name_char, name_string, pkg_length, raw_pkg_length, run, Component, Ended, Error, Found, FoundLevel,
+    check, is_digit_char, is_lead_name_char, is_name_char, name_string, pkg_length, raw_pkg_length, run, Component, Counts, Ended, Error, Found, FoundLevel,
     Frame, Handle, Level, LevelType, Path, PkgLength, Run, Table, Width,
 };
 use klem::{write_table, Header, Signature};
@@ -142,6 +142,21 @@ fn the_table() {
     assert_eq!(table.levels(&p("\\A")).map(|l| (l.len(), l.collect::<Vec<_>>())), Ok((2, all[1..].to_vec())));
     assert_eq!(table.levels(&p("\\A.Q")).map(|l| l.len()), Err(Error::LevelDoesNotExist(2)));
     assert_eq!(table.levels(&p("A")).map(|l| l.len()), Err(Error::NotAbsolute));
+
+    // an image, and the same table of it
+    let mut room = [7; 64];
+    assert_eq!(table.image(&mut room[..44]), Err(Error::OutTooSmall(0)));
+    assert_eq!(room, [7; 64]);
+    assert_eq!(table.image(&mut room), Ok(45));
+    assert_eq!((&room[..4], room[45]), (&[0x10, 0x20, 0x08, 0x02][..], 7));
+    let mut other = Table::new();
+    assert_eq!(other.load(&room[..46]), Err(Error::ImageBytesLeft(360)));
+    assert_eq!(other.load(&room[..44]), Err(Error::ImageEndedEarly(292)));
+    assert_eq!(other, Table::new());
+    assert_eq!(other.load(&room[..45]), Ok(Counts { levels: 2, bindings: 2, objects: 2 }));
+    assert_eq!(other, table);
+    let mut short = Table::over(vec![0; Table::WORDS - 1]);
+    assert_eq!(short.load(&room[..45]), Err(Error::BadTable));
 
     // a refused edit leaves the memory as it was
     let before = table.clone();

@@ -86,7 +86,7 @@ impl<M: AsRef<[u64]> + AsMut<[u64]>> Shell<M> {
             b"width" => Ok(format!("ok {}", Width::of_revision(byte(w[1])?).bits())),
             b"ssdt-width" => Ok(format!("ok {}", Width::of_ssdt(byte(w[1])?, byte(w[2])?).bits())),
             b"help" => helped(w.get(1)),
-            b"level" | b"remove" | b"value" | b"value-at" | b"alias" | b"set" | b"set-object" | b"poke" | b"new" => self.edits(&w),
+            b"level" | b"remove" | b"value" | b"value-at" | b"alias" | b"set" | b"set-object" | b"poke" | b"new" | b"load" => self.edits(&w),
             _ => self.looks(&w),
         }
     }
@@ -95,6 +95,10 @@ impl<M: AsRef<[u64]> + AsMut<[u64]>> Shell<M> {
     fn edits(&mut self, w: &[&[u8]]) -> Said {
         match w[0] {
             b"new" => ok(self.table.reset()),
+            b"load" => {
+                let held = self.table.load(&hex(w[1], MOST_BYTES)?)?;
+                Ok(format!("ok levels {} bindings {} objects {}", held.levels, held.bindings, held.objects))
+            }
             b"level" => {
                 let typ = number(w[2]).ok().and_then(|n| LevelType::try_from(n).ok()).ok_or(Stop::Wrong("bad type"))?;
                 let p = self.paths(&w[1..2])?;
@@ -148,6 +152,15 @@ impl<M: AsRef<[u64]> + AsMut<[u64]>> Shell<M> {
                 let p = self.paths(&w[1..])?;
                 let found = self.table.search(&p[0], &p[1])?;
                 Ok(format!("ok {} handle {} asked {}", show(&found.path), found.handle.0, found.asked))
+            }
+            b"image" => {
+                let room = number(w[1])? as usize;
+                if room > MOST_BYTES {
+                    return Err(Stop::Wrong("length over 100000"));
+                }
+                let mut out = vec![0; room];
+                let n = self.table.image(&mut out)?;
+                Ok(format!("ok {}", out[..n].iter().map(|b| format!("{b:02X}")).collect::<String>()))
             }
             b"levels" => {
                 let room = number(w[2])? as usize;
