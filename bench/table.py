@@ -41,7 +41,7 @@ def keep(path):
         number, _, kind, name = line.rstrip("\n").split(" ", 3)
         if (int(number), "port") not in found:
             continue
-        (calls, port), rust = share(int(number), "port"), "" if kind == "alone" else share(int(number), "rust")[1]
+        (calls, port), rust = share(int(number), "port"), "" if kind in ("alone", "port") else share(int(number), "rust")[1]
         out.writerow([name, kind, calls, port, rust])
 
 
@@ -53,7 +53,8 @@ class Table:
         version = re.search(r"-rustc-([\d.]+)\.csv$", path)
         self.version = version[1] if version else ""
         rows = list(csv.DictReader(l for l in lines if not l.startswith("# ")))
-        self.rows = [r for r in rows if r["kind"] != "alone"]
+        self.rows = [r for r in rows if r["kind"] in ("both", "apart")]
+        self.single = [r for r in rows if r["kind"] == "port"]
         self.of = {r["row"]: (float(r["port"]), float(r["rust"])) for r in self.rows}
         self.alone = {r["row"]: float(r["port"]) for r in rows if r["kind"] == "alone"}
 
@@ -104,6 +105,14 @@ def show(t):
     yield from grid(heads, ([r["row"], r["calls"], *(figure(x, t.unit) for x in t.of[r["row"]]), verdict(t, r)] for r in t.rows))
     yield ""
     yield t.counts()
+    yield from single(t)
+
+
+def single(t):
+    """the rows that the port alone has"""
+    if t.single:
+        yield ""
+        yield from grid(["row", "calls", "port, %s a call" % t.unit], ([r["row"], r["calls"], figure(float(r["port"]), t.unit)] for r in t.single))
 
 
 def tables(name):
@@ -142,6 +151,7 @@ def instructions():
         for s in sets:
             yield "%s, by rustc %s: %s" % (name, s.version, s.counts())
             yield ""
+    yield from single(t)
 
 
 CALLS = {"an exact lookup": "lookup", "a search of a value": "search", "a search of a level": "level search"}
@@ -295,7 +305,7 @@ def short(n):
 
 def main():
     what, paths = sys.argv[1:2], sys.argv[2:]
-    if what == ["show"] and len(paths) == 1 and Table(paths[0]).alone:
+    if what == ["show"] and len(paths) == 1 and Table(paths[0]).alone and not Table(paths[0]).rows:
         t = Table(paths[0])
         print("\n".join(grid(["board", "test", *CALLS.values()], ([b] + [figure(x, t.unit) for x in [test] + calls] for b, test, calls in beside_rows(t)))))
     elif what == ["keep"] and len(paths) == 1:

@@ -1,6 +1,6 @@
 """Two models in Python: what documents 01 and 02 say that a call answers, and what the Rust answers where the two are known to differ.
 
-`Paper` is 01 (and R-1, R-2, R-3 and R-7 of 02) written once more, from its sentences and in another language; it uses nothing of the port, but was written with the port's definitions
+`Paper` is 01 (and R-1, R-2, R-3, R-6, R-7 and R-8 of 02) written once more, from its sentences and in another language; it uses nothing of the port, but was written with the port's definitions
 known. `Rust` follows the published source where
 docs/DIFFERENCES.md has a difference, panics included. oracle/compare.py asks both where the port and the Rust disagree: a difference is known only if
 each side's answer is the one that its model computes, and the Rust's model says which difference it met on the way.
@@ -10,7 +10,9 @@ import re
 NAMES = ["UnexpectedEndOfStream", "InvalidPkgLength", "BadOpcode", "TooDeep", "BlockTooLong", "BadNameByte", "EmptyNamesAreInvalid", "InvalidNameSeg",
          "TooManyComponents", "InvalidNormalizedName", "NotAbsolute", "RootHasNoParent", "RootNotAllowed", "TriedToRemoveRootNamespace", "LevelDoesNotExist",
          "ValueDoesNotExist", "NameCollision", "LevelsFull", "BindingsFull", "ObjectsFull", "NoSuchHandle", "BudgetSpent", "Unset", "BadTable", "OutTooSmall", "BadPath",
-         "TableTooShort", "BadSignature", "BadTableLength", "BadChecksum", "PackageEndsEarly"]
+         "TableTooShort", "BadSignature", "BadTableLength", "BadChecksum", "PackageEndsEarly",
+         "ImageEndedEarly", "ImageEdition", "ImageCount", "ImageDepth", "ImageType", "ImageSegment", "ImageOrder", "ImageDeepBindings", "ImageBindingsOver", "ImageBindingsShort",
+         "ImageHandle", "ImageSpareBits", "ImageBytesLeft"]
 COMPONENTS, LEVELS, BINDINGS, OBJECTS, LONGEST, DEPTH = 32, 128, 512, 512, 65536, 16
 ONES = 2 ** 64 - 1
 
@@ -259,6 +261,102 @@ class Table:
         return handle
 
 
+# ---- images (R-6)
+
+def image_fields(t):
+    """the fields of a table's image, each its width and its number"""
+    four = lambda seg: int.from_bytes(seg.encode(), "big")
+    levels = sorted(k for k in t.levels if k)  # a level before those below it, children in byte order
+    yield from ((4, 1), (8, len(levels)), (10, len(t.bound)), (10, len(t.objects)))
+    for k in levels:
+        yield from ((6, len(k)), (3, t.levels[k]), (32, four(k[-1])))
+    for level in [(), *levels]:
+        own = sorted((seg, handle) for (at, seg), handle in t.bound.items() if at == level)
+        yield 10, len(own)
+        for seg, handle in own:
+            yield from ((32, four(seg)), (10, handle))
+    for value in t.objects:
+        yield 64, value
+
+
+def packed(fields):
+    """the bytes of fields, with zero bits to the byte end"""
+    bits = "".join(format(n, "0%db" % width) for width, n in fields)
+    bits += "0" * (-len(bits) % 8)
+    return [int(bits[i:i + 8], 2) for i in range(0, len(bits), 8)]
+
+
+def image_of(t):
+    return packed(image_fields(t))
+
+
+class Fields:
+    """an image from left to right"""
+
+    def __init__(self, b):
+        self.bits, self.at = "".join(format(x, "08b") for x in b), 0
+
+    def next(self, width):
+        """a field's number; `place` is then where it stands"""
+        self.place = self.at
+        if len(self.bits) < self.at + width:
+            raise Refused(32, self.place)
+        self.at += width
+        return int(self.bits[self.place:self.at] or "0", 2)
+
+    def must(self, holds, number):
+        if not holds:
+            raise Refused(number, self.place)
+
+    def count(self, width, limit):
+        n = self.next(width)
+        self.must(n <= limit, 34)
+        return n
+
+    def segment(self, before):
+        """a segment that rises behind the one before it, which may be None"""
+        b = self.next(32).to_bytes(4, "big")
+        self.must(lead(b[0]) and all(lead(c) or digit(c) for c in b[1:]), 37)
+        self.must(before is None or before < b.decode(), 38)
+        return b.decode()
+
+
+def image_in(b):
+    """the table of an image, and its three counts"""
+    f, t = Fields(b), Table()
+    f.must(f.next(4) == 1, 33)
+    counts = levels, bindings, objects = f.count(8, LEVELS - 1), f.count(10, BINDINGS), f.count(10, OBJECTS)
+    at, order, last = (), [()], {}  # the record before; all records; by parent, its last child so far
+    for _ in range(levels):
+        depth = f.next(6)
+        f.must(1 <= depth <= COMPONENTS - 1 and depth <= len(at) + 1, 35)
+        typ = f.next(3)
+        f.must(typ <= 5, 36)
+        parent = at[:depth - 1]
+        seg = f.segment(last.get(parent))
+        last[parent], at = seg, (*parent, seg)
+        t.levels[at] = typ
+        order.append(at)
+    left = bindings
+    for i, at in enumerate(order):
+        n = f.next(10)
+        f.must(n == 0 or len(at) < COMPONENTS - 1, 39)
+        f.must(n <= left, 40)
+        left -= n
+        f.must(left == 0 or i < levels, 41)
+        seg = None
+        for _ in range(n):
+            seg = f.segment(seg)
+            handle = f.next(10)
+            f.must(handle < objects, 42)
+            t.bound[at, seg] = handle
+    t.objects = [f.next(64) for _ in range(objects)]
+    f.must(f.next(-f.at % 8) == 0, 43)
+    f.place = f.at
+    f.must(f.at == len(f.bits), 44)
+    return t, counts
+
+
 class Paper:
     """what 01 says that a klem line answers"""
 
@@ -440,6 +538,16 @@ class Paper:
         if int(room) < len(found):
             raise Refused(25, len(found))
         return "ok %d" % len(found) + "".join(" %d/%d/%s" % (len(k), self.table.levels[k], k[-1] if k else "-") for k in found)
+
+    def image(self, room):
+        b = image_of(self.table)
+        if int(room, 0) < len(b):
+            raise Refused(25)
+        return "ok " + hexed(b)
+
+    def load(self, h):
+        self.table, counts = image_in(unhexed(h))
+        return "ok levels %d bindings %d objects %d" % counts
 
     def whole_table(self, h):
         return "ok %s revision %d body 36 to %d" % header(unhexed(h))

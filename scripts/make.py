@@ -3,15 +3,17 @@
 
   scripts/make.py            from the repository's root
 
-Eight parts, in this order:
+Nine parts, in this order:
 1. document 01's cases that are not in crate `cases`, and its impostors' inputs: the answers are the paper's, written here by hand beside each line;
 2. every limit: the answers follow from the limit, by the rules in this file, not from the program;
 3. request R-1 of document 02, whole tables: the answers are those of oracle/model.py's second reading, and by hand where they are short;
 4. request R-2 of document 02, the width of a frame: the answers follow from the width, by the rules in this file;
 5. request R-3 of document 02, the two bad lengths: by hand, then every package of a few leads and contents as oracle/model.py's second reading has it;
 6. request R-7 of document 02, six operators more, at both widths: the answers are worked out in this file;
-7. the shell's own words: its help is the list of docs/KLEM.md, and the examples of that page are true;
-8. the replay: calls on which the port and the Rust agreed (oracle/compare.py --sample), with those answers (scripts/replay.in, replay.out).
+7. request R-6 of document 02, images: each refusal by hand; then a small image with each bit flipped, each prefix of it and each byte behind it, and a full table, as
+   oracle/model.py's second reading has them;
+8. the shell's own words: its help is the list of docs/KLEM.md, and the examples of that page are true;
+9. the replay: calls on which the port and the Rust agreed (oracle/compare.py --sample), with those answers (scripts/replay.in, replay.out).
 """
 import os
 import re
@@ -36,7 +38,8 @@ def note(text):
 NAMES = ["UnexpectedEndOfStream", "InvalidPkgLength", "BadOpcode", "TooDeep", "BlockTooLong", "BadNameByte", "EmptyNamesAreInvalid", "InvalidNameSeg",
          "TooManyComponents", "InvalidNormalizedName", "NotAbsolute", "RootHasNoParent", "RootNotAllowed", "TriedToRemoveRootNamespace", "LevelDoesNotExist",
          "ValueDoesNotExist", "NameCollision", "LevelsFull", "BindingsFull", "ObjectsFull", "NoSuchHandle", "BudgetSpent", "Unset", "BadTable", "OutTooSmall", "BadPath",
-         "TableTooShort", "BadSignature", "BadTableLength", "BadChecksum", "PackageEndsEarly"]
+         "TableTooShort", "BadSignature", "BadTableLength", "BadChecksum", "PackageEndsEarly", "ImageEndedEarly", "ImageEdition", "ImageCount", "ImageDepth", "ImageType", "ImageSegment",
+         "ImageOrder", "ImageDeepBindings", "ImageBindingsOver", "ImageBindingsShort", "ImageHandle", "ImageSpareBits", "ImageBytesLeft"]
 
 
 def refused(n, place=0):
@@ -436,6 +439,10 @@ def wrong_lines():
     wrong("ssdt-width 256 2", "bad number")
     wrong("ssdt-width 2 256", "bad number")
     wrong("poke 1153 0", "no such word")
+    wrong("image", "wants image ROOM")
+    wrong("image 100001", "length over 100000")
+    wrong("load", "wants load HEX")
+    wrong("load 1", "bad hex")
     usage = "wants write-table SIG REV REST BODY ROOM"
     wrong("write-table 44534454 2 %s -" % ("00" * 26), usage)
     wrong("write-table 44534454 2 %s - 36 1" % ("00" * 26), usage)
@@ -653,7 +660,7 @@ def deepest():
     case("search X %s" % path, "ok \\%s.X___ handle 1 asked 2" % ".".join(["D___"] * 30))
 
 
-CALLS = ("levels \\ 0", "tree", "level \\B 0", "remove \\A", "value \\Y 1", "value-at Y \\ 1", "alias Y \\ \\A.X", "get 0", "set 0 1", "handle \\A.X", "object \\A.X", "set-object \\A.X 1", "search X \\A",
+CALLS = ("levels \\ 0", "tree", "image 0", "level \\B 0", "remove \\A", "value \\Y 1", "value-at Y \\ 1", "alias Y \\ \\A.X", "get 0", "set 0 1", "handle \\A.X", "object \\A.X", "set-object \\A.X 1", "search X \\A",
          "search-level A \\")
 
 
@@ -700,7 +707,113 @@ def damaged():
     case("digest", "ok %d" % digest(good))
 
 
-PARTS = [paper, limits_of_lengths, limits_of_components, limits_of_depth, limits_of_budget, tables, table_limits, whole_tables, widths, bad_lengths, arithmetic, wrong_lines, helped]
+def spelled(*fields):
+    """an image of fields, each a width and a number or the four characters of a segment, with zero bits to the byte end"""
+    bits = "".join(format(n if isinstance(n, int) else int.from_bytes(n.encode(), "big"), "0%db" % w) for w, n in fields)
+    return "%0*X" % (2 * -(-len(bits) // 8), int(bits + "0" * (-len(bits) % 8), 2))
+
+
+def head(levels, bindings, objects):
+    return (4, 1), (8, levels), (10, bindings), (10, objects)
+
+
+def record(depth, typ, seg):
+    return (6, depth), (3, typ), (32, seg)
+
+
+def images():
+    note("request R-6: a table is saved and read back")
+    case("new", "ok")
+    case("image 6", "ok 100000000000")
+    case("image 5", refused(25))
+    case("image 100000", "ok 100000000000")
+    for line, answer in [("level \\_SB 0", "ok"), ("level \\_PR 0", "ok"), ("level \\_SB.PCI0 1", "ok"), ("value \\_SB.PCI0._ADR 0x1F0000", "ok handle 0"), ("value \\_OS 7", "ok handle 1"),
+                         ("alias _UID \\_SB.PCI0 \\_OS", "ok handle 1")]:
+        case(line, answer)
+    worked = spelled(*head(3, 3, 2), *record(1, 0, "_PR_"), *record(1, 0, "_SB_"), *record(2, 1, "PCI0"), (10, 1), (32, "_OS_"), (10, 1), (10, 0), (10, 0), (10, 2), (32, "_ADR"), (10, 0),
+                     (32, "_UID"), (10, 1), (64, 0x1F0000), (64, 7))
+    words = table_words([(1, 0, 1, 0), (2, 0, 0, segment("_PR")), (2, 0, 0, segment("_SB")), (3, 1, 2, segment("PCI0"))], [(segment("_OS"), 1), (segment("_ADR"), 0), (segment("_UID"), 1)], [0x1F0000, 7])
+    case("digest", "ok %d" % digest(words))
+    case("image 57", "ok " + worked)
+    case("image 56", refused(25))
+    case("new", "ok")
+    case("load " + worked, "ok levels 3 bindings 3 objects 2")
+    case("digest", "ok %d" % digest(words))
+    note("each refusal at its field, and the table as it was")
+    a, b = record(1, 0, "A___"), record(1, 0, "B___")
+    for image, number, place in [
+            ("-", 32, 0), ("10", 32, 4), ("100000", 32, 22), ("00000000", 33, 0), ("20000000", 33, 0), ("F0", 33, 0), (spelled((4, 1), (8, 128), (10, 1023), (10, 1023)), 34, 4),
+            (spelled((4, 1), (8, 0), (10, 513), (10, 1023)), 34, 12), (spelled((4, 1), (8, 0), (10, 512), (10, 513)), 34, 22), (spelled(*head(1, 0, 0)), 32, 32),
+            (spelled(*head(1, 0, 0), *record(0, 7, 0)), 35, 32), (spelled(*head(1, 0, 0), *record(2, 7, 0)), 35, 32), (spelled(*head(2, 0, 0), *a, *record(3, 7, 0)), 35, 73),
+            (spelled(*head(1, 0, 0), *record(1, 6, 0)), 36, 38), (spelled(*head(1, 0, 0), *record(1, 5, 0)), 37, 41), (spelled(*head(1, 0, 0), *record(1, 5, "0A__")), 37, 41),
+            (spelled(*head(1, 0, 0), *record(1, 5, "Aa__")), 37, 41), (spelled(*head(2, 0, 0), *a, *a), 38, 82), (spelled(*head(2, 0, 0), *b, *a), 38, 82),
+            (spelled(*head(3, 0, 0), *b, *record(2, 0, "Z___"), *a), 38, 123), (spelled(*head(0, 1, 1), (10, 2)), 40, 32), (spelled(*head(0, 1, 1), (10, 0)), 41, 32), (spelled(*head(1, 2, 1), *a, (10, 1), (32, "A___"), (10, 0), (10, 0)), 41, 125),
+            (spelled(*head(0, 1, 1), (10, 1), (32, 0), (10, 1)), 37, 42), (spelled(*head(0, 2, 1), (10, 2), (32, "B___"), (10, 0), (32, "B___"), (10, 0)), 38, 84), (spelled(*head(0, 1, 1), (10, 1), (32, "A___"), (10, 1)), 42, 74),
+            (spelled(*head(0, 1, 0), (10, 1), (32, "A___"), (10, 0)), 42, 74), (spelled(*head(0, 0, 1), (10, 0)), 32, 42), (spelled(*head(0, 0, 0), (10, 0), (6, 1)), 43, 42), (spelled(*head(0, 0, 0), (10, 0), (6, 32), (8, 0)), 43, 42),
+            (spelled(*head(0, 0, 0), (10, 0), (6, 0), (8, 0)), 44, 48)]:
+        kept("load " + image, refused(number, place), words)
+    case("load 100000000000", "ok levels 0 bindings 0 objects 0")
+    case("digest", "ok %d" % digest(table_words([(1, 0, 0, 0)], [], [])))
+    note("the deepest levels hold no binding, and none stands below them")
+    down = [f for d in range(1, 32) for f in record(d, 0, "D___")]
+    case("load " + spelled(*head(31, 0, 0), *down, *[(10, 0)] * 32), "ok levels 31 bindings 0 objects 0")
+    kept("load " + spelled(*head(32, 0, 0), *down, *record(32, 0, "D___")), refused(35, 32 + 31 * 41), chain(32))
+    kept("load " + spelled(*head(31, 1, 1), *down, *[(10, 0)] * 31, (10, 1)), refused(39, 32 + 31 * 41 + 310), chain(32))
+    kept("load " + spelled(*head(31, 0, 0), *down, *[(10, 0)] * 31, (10, 1)), refused(39, 32 + 31 * 41 + 310), chain(32))
+    case("load " + spelled(*head(31, 1, 1), *down, *[(10, 0)] * 30, (10, 1), (32, "X___"), (10, 0), (10, 0), (64, 9)), "ok levels 31 bindings 1 objects 1")
+    case("digest", "ok %d" % digest(chain(32, (31,), (9,))))
+    note("a table of damaged memory is no table to save, and one to load into")
+    case("poke 0 0", "ok")
+    case("image 100000", refused(24))
+    case("load 10", refused(32, 4))
+    case("well-formed", "ok 0")
+    case("load " + worked, "ok levels 3 bindings 3 objects 2")
+    case("digest", "ok %d" % digest(words))
+    damaged_images(list(bytes.fromhex(worked)))
+    full_image()
+
+
+def damaged_images(image):
+    paper = model.Paper()
+
+    def read(b):
+        for line in ("load " + hexed(b), "image 100"):
+            case(line, paper.answer(line))
+
+    read(image)
+    note("each bit of a small image flipped")
+    for i in range(8 * len(image)):
+        read(image[:i // 8] + [image[i // 8] ^ 128 >> i % 8] + image[i // 8 + 1:])
+    note("each prefix of it")
+    for i in range(len(image)):
+        read(image[:i])
+    note("each byte behind it")
+    for i in range(256):
+        read(image + [i])
+
+
+def full_image():
+    note("a full table, and one of each kind more")
+    name = lambda i: "L%03d" % i
+    t = model.Table()
+    for i in range(127):
+        t.levels[name(i),] = i % 6
+    for i in range(512):
+        t.bound[(name(i % 127),) if i % 3 else (), "B%03d" % i] = 511 - i
+    t.objects = [i * 0x0123456789ABCDEF % 2 ** 64 for i in range(512)]
+    image = model.image_of(t)
+    case("load " + hexed(image), "ok levels 127 bindings 512 objects 512")
+    case("image 7598", refused(25))
+    case("image 7599", "ok " + hexed(image))
+    case("get 511", "ok %d" % t.objects[511])
+    case("level \\A 0", refused(18))
+    case("value \\A 0", refused(19))
+    case("load " + hexed(image + [0]), refused(44, 8 * 7599))
+    case("load " + hexed(image[:-1]), refused(32, 32 + 127 * 41 + 1280 + 512 * 42 + 511 * 64))
+    case("new", "ok")
+
+
+PARTS = [paper, limits_of_lengths, limits_of_components, limits_of_depth, limits_of_budget, tables, table_limits, whole_tables, widths, bad_lengths, arithmetic, images, wrong_lines, helped]
 
 
 def main():

@@ -1,6 +1,6 @@
 //! The port and the Rust crate aml 0.16.4 on the same inputs, in one process.
 //!
-//!   klem-bench --list                   the rows: number, calls for a count, `both`, `apart` or `alone`, name
+//!   klem-bench --list                   the rows: number, calls for a count, `both`, `apart`, `port` or `alone`, name
 //!   klem-bench --time ROUNDS            every row timed: row, side, calls, the least nanoseconds of the rounds
 //!   klem-bench --count                  every row, each side with N calls and with 2N, between marks that bench/icount.c counts by
 //!   klem-bench --one ROW SIDE CALLS     CALLS calls of one side (port or rust) of one row, for valgrind
@@ -26,6 +26,8 @@ pub enum Kind {
     Both,
     /// The Rust has no such call and does something else: the row is not counted as ahead or behind.
     Apart,
+    /// The port alone, since the Rust has no such call and nothing like it.
+    Port,
     /// The port alone, for the table of what a call takes beside the test of memory.
     Alone,
 }
@@ -35,8 +37,13 @@ impl Kind {
         match self {
             Kind::Both => "both",
             Kind::Apart => "apart",
+            Kind::Port => "port",
             Kind::Alone => "alone",
         }
+    }
+
+    fn has_rust(self) -> bool {
+        matches!(self, Kind::Both | Kind::Apart)
     }
 }
 
@@ -116,18 +123,20 @@ fn main() {
                     let (mut port, mut rust) = (Duration::MAX, Duration::MAX);
                     for _ in 0..rounds {
                         port = port.min((row.port)(row.calls));
-                        rust = rust.min((row.rust)(row.calls));
+                        if row.kind.has_rust() {
+                            rust = rust.min((row.rust)(row.calls));
+                        }
                     }
                     println!("{i} port {} {}", row.calls, port.as_nanos());
-                    if row.kind != Kind::Alone {
+                    if row.kind.has_rust() {
                         println!("{i} rust {} {}", row.calls, rust.as_nanos());
                     }
                 })
             }
             ["--count"] => every_row(|i, row| {
                 let n = row.counted_calls();
-                let alone = row.kind == Kind::Alone;
-                for (name, side) in [("port", &mut row.port), ("rust", &mut row.rust)].into_iter().take(if alone { 1 } else { 2 }) {
+                let sides = if row.kind.has_rust() { 2 } else { 1 };
+                for (name, side) in [("port", &mut row.port), ("rust", &mut row.rust)].into_iter().take(sides) {
                     // once unmarked, so that what is done at the first call alone is done
                     side(n);
                     for calls in [n, 2 * n] {

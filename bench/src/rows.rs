@@ -1,5 +1,5 @@
 //! The rows: for each, the port's call, the Rust's call, and the comparison of their answers.
-use crate::{black_box, inputs, klem_bench_timed as timed, Kind, Row};
+use crate::{black_box, inputs, klem_bench_timed as timed, Kind, Row, Side};
 use aml::{
     name_object::name_string,
     namespace::{AmlName, LevelType as AmlLevel, Namespace},
@@ -78,6 +78,7 @@ pub fn rows() -> Vec<Row> {
     rows.push(refused("run short blocks that both refuse (1 to 16 bytes)", inputs::short_faults(), 2_400));
     rows.push(refused("run a block of 64 KiB that both refuse at its end", vec![inputs::late_fault(65_536)], 1));
     rows.extend([8, 32, 100, 128].map(grown));
+    rows.extend(images());
     rows.extend(beside());
     rows
 }
@@ -423,6 +424,42 @@ fn listed(board: Rc<Board>) -> Row {
 fn grown(n: usize) -> Row {
     let board = Rc::new(board_of(inputs::levels_of(n)));
     searched(&format!("the same search with {n} levels and {} values", 4 * (n - 1)), 3_000, board, (0..6).rev().map(inputs::own).collect())
+}
+
+// The largest image that there is: 127 levels, 512 bindings, 512 objects. The Rust has none.
+fn images() -> [Row; 2] {
+    let mut table = Table::new();
+    let levels = inputs::levels_of(128);
+    let mut values = inputs::board_values(&levels);
+    values.extend((values.len() as u64..512).map(|i| (format!("\\V{i:03}"), i)));
+    for l in &levels {
+        table.add_level(&path(l), LevelType::Device).unwrap_or_else(|e| panic!("{l}: {e}"));
+    }
+    for (p, v) in &values {
+        table.add_value(&path(p), *v).unwrap_or_else(|e| panic!("{p}: {e}"));
+    }
+    let mut room = [0; Table::IMAGE_BYTES];
+    assert_eq!(table.image(&mut room), Ok(room.len()));
+    let (image, saved, mut loaded) = (room, table.clone(), Table::new());
+    let row = |what: &str, port| Row {
+        name: format!("{what} of a full table, 7,599 bytes (the Rust has none)"),
+        calls: 500,
+        inputs: 1,
+        kind: Kind::Port,
+        same: Box::new({
+            let saved = saved.clone();
+            move || {
+                let mut again = Table::new();
+                again.load(&image).map_err(|e| e.to_string())?;
+                equal(&"the image", again == saved, true).map(|()| 1)
+            }
+        }),
+        port,
+        rust: Box::new(|_| unreachable!("the port alone")),
+    };
+    let written: Side = Box::new(move |n| timed(&mut || (0..n).for_each(|_| done(table.image(black_box(&mut room))))));
+    let read: Side = Box::new(move |n| timed(&mut || (0..n).for_each(|_| done(loaded.load(black_box(&image))))));
+    [row("write the image", written), row("read the image", read)]
 }
 
 // What a lookup and the two searches take beside the test of memory: the test alone, and the calls, on the same boards. The port alone.

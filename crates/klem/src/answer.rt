@@ -5,6 +5,7 @@ use crate::said::Said;
 use grammar::CheckAnswer;
 use header::HeaderAnswer;
 use header::Signature;
+use image::ReadAnswer;
 use name_object::NameAnswer;
 use name_object::NameSaid;
 use namespace::EditAnswer;
@@ -130,5 +131,18 @@ pub fn level(a: LevelAnswer) -> Said {
     match said {
         LevelSaid::Refused(e) => said::refused(e),
         LevelSaid::At(asked) => said::path(rows::LEVEL_FOUND, a.name, asked as u64, 0),
+    }
+}
+
+// What an image held.
+pub fn loaded(a: ReadAnswer) -> Said {
+    match a {
+        ReadAnswer::Refused(e) => said::refused(e),
+        ReadAnswer::Read(c) => said::numbers(
+            rows::LOADED,
+            c.levels as u64,
+            c.bindings as u64,
+            c.objects as u64,
+        ),
     }
 }

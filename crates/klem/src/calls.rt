@@ -37,6 +37,11 @@ fn bind(k: usize, a: Args, table: &mut [u64]) -> HandleAnswer {
     }
 }
 
+// The table of an image.
+pub fn load(bytes: &[u8], table: &mut [u64]) -> Said {
+    answer::loaded(image::read(bytes, table))
+}
+
 // One word of the table's memory.
 fn poke(index: usize, n: u64, table: &mut [u64]) -> Said {
     if index < table.len() {

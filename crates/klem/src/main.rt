@@ -98,7 +98,7 @@ fn reply(
     told(k, s, a, line, line_number, rows, table, bytes, out, at)
 }
 
-// A run, a table that is written and levels have more to write than a form.
+// A run, a table that is written, levels and an image have more to write than a form.
 fn told(
     k: usize,
     s: Said,
@@ -131,6 +131,9 @@ fn told(
     if s.form == rows::LEVELS {
         return levels::answer(s.x as usize, a.first, a.x, table, rows, out, at);
     }
+    if s.form == rows::IMAGE {
+        return tables::image(a.x, table, rows, out, at);
+    }
     show::said(out, at, said::at_line(s, line_number), rows)
 }
 
@@ -142,7 +145,8 @@ fn width(k: usize) -> Width {
     }
 }
 
-// What a command says. A run says how long its block is, a table that is to be written how long its body is, and a list of levels which command it is.
+// What a command says. A run says how long its block is, a table that is to be written how long its body is, a list of levels which command it is, and an
+// image that it is one.
 fn asked(
     k: usize,
     a: Args,
@@ -191,11 +195,14 @@ fn call(
         b'R' => said::numbers(rows::RUN, n as u64, 0, 0),
         b'W' => said::numbers(rows::WRITE_TABLE, n as u64, 0, 0),
         b'D' => said::numbers(rows::LEVELS, k as u64, 0, 0),
+        b'I' => said::plain(rows::IMAGE),
+        b'O' => calls::load(words::part(bytes, 0, n), table),
         _ => help(rows, words::behind(line, a.rest)),
     }
 }
 
-// What a command is about: bytes, paths, looks at the table or edits of it, runs, writing a table, levels drawn, help.
+// What a command is about: bytes, paths, looks at the table or edits of it, runs, writing a table, levels drawn, an
+// image saved or loaded, help.
 fn group(k: usize) -> u8 {
     match k {
         rows::PKG..=rows::NAME | rows::SEG | rows::CHECK | rows::TABLE => b'B',
@@ -206,6 +213,8 @@ fn group(k: usize) -> u8 {
         rows::RUN | rows::RUN32 => b'R',
         rows::WRITE_TABLE => b'W',
         rows::LEVELS | rows::TREE => b'D',
+        rows::IMAGE => b'I',
+        rows::LOAD => b'O',
         rows::HELP => b'H',
         _ => b'E',
     }

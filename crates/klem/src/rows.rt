@@ -2,7 +2,7 @@
 // least one blank at its end. One table is lent to all: proving a call that lends a text of its own costs as much as six calls that lend none.
 use crate::words;
 
-pub const TEXT: [u8; 5400] = *b"pkg HEX                                 \
+pub const TEXT: [u8; 5520] = *b"pkg HEX                                 \
     raw HEX                                 \
     fit LENGTH RAW                          \
     still END LENGTH                        \
@@ -35,6 +35,8 @@ pub const TEXT: [u8; 5400] = *b"pkg HEX                                 \
     search-level PATH SCOPE                 \
     levels PATH ROOM                        \
     tree                                    \
+    image ROOM                              \
+    load HEX                                \
     check HEX                               \
     run BUDGET HEX [CELL=NUMBER ..]         \
     run32 BUDGET HEX [CELL=NUMBER ..]       \
@@ -57,6 +59,7 @@ pub const TEXT: [u8; 5400] = *b"pkg HEX                                 \
     ok @ used #                             \
     ok @ asked #                            \
     ok @ handle # asked #                   \
+    ok levels # bindings # objects #        \
     ok*                                     \
     ok $                                    \
     finished                                \
@@ -205,117 +208,123 @@ pub const LEVELS: usize = 31;
 
 pub const TREE: usize = 32;
 
-pub const CHECK: usize = 33;
+pub const IMAGE: usize = 33;
 
-pub const RUN: usize = 34;
+pub const LOAD: usize = 34;
 
-pub const RUN32: usize = 35;
+pub const CHECK: usize = 35;
 
-pub const WIDTH: usize = 36;
+pub const RUN: usize = 36;
 
-pub const SSDT_WIDTH: usize = 37;
+pub const RUN32: usize = 37;
 
-pub const TABLE: usize = 38;
+pub const WIDTH: usize = 38;
 
-pub const WRITE_TABLE: usize = 39;
+pub const SSDT_WIDTH: usize = 39;
 
-pub const HELP: usize = 40;
+pub const TABLE: usize = 40;
 
-pub const COMMANDS: usize = 41;
+pub const WRITE_TABLE: usize = 41;
+
+pub const HELP: usize = 42;
+
+pub const COMMANDS: usize = 43;
 
 // The forms. `#` is the answer's next number, `@` its path, `$` the row that its next number says, `*` the commands' names. From
 // BAD_SIZE to WORDS they are faults of a line's words: the greatest is told, and of those from BAD_NUMBER on the first.
-pub const OK: usize = 41;
+pub const OK: usize = 43;
 
-pub const NUMBER: usize = 42;
+pub const NUMBER: usize = 44;
 
-pub const HANDLE_IS: usize = 43;
+pub const HANDLE_IS: usize = 45;
 
-pub const RAW_LENGTH: usize = 44;
+pub const RAW_LENGTH: usize = 46;
 
-pub const LENGTH: usize = 45;
+pub const LENGTH: usize = 47;
 
-pub const PKG_LENGTH: usize = 46;
+pub const PKG_LENGTH: usize = 48;
 
-pub const DSDT: usize = 47;
+pub const DSDT: usize = 49;
 
-pub const SSDT: usize = 48;
+pub const SSDT: usize = 50;
 
-pub const CHARS: usize = 49;
+pub const CHARS: usize = 51;
 
-pub const KINDS: usize = 50;
+pub const KINDS: usize = 52;
 
-pub const PATH: usize = 51;
+pub const PATH: usize = 53;
 
-pub const PATH_USED: usize = 52;
+pub const PATH_USED: usize = 54;
 
-pub const LEVEL_FOUND: usize = 53;
+pub const LEVEL_FOUND: usize = 55;
 
-pub const FOUND: usize = 54;
+pub const FOUND: usize = 56;
 
-pub const NAMES: usize = 55;
+pub const LOADED: usize = 57;
 
-pub const USAGE: usize = 56;
+pub const NAMES: usize = 58;
 
-pub const FINISHED: usize = 57;
+pub const USAGE: usize = 59;
 
-pub const RETURNED: usize = 58;
+pub const FINISHED: usize = 60;
 
-pub const BREAK: usize = 59;
+pub const RETURNED: usize = 61;
 
-pub const CONTINUE: usize = 60;
+pub const BREAK: usize = 62;
 
-pub const UNITS: usize = 61;
+pub const CONTINUE: usize = 63;
 
-pub const CELL: usize = 62;
+pub const UNITS: usize = 64;
 
-pub const NO_CELL: usize = 63;
+pub const CELL: usize = 65;
 
-pub const BAD_SIZE: usize = 64;
+pub const NO_CELL: usize = 66;
 
-pub const REFUSED: usize = 65;
+pub const BAD_SIZE: usize = 67;
 
-pub const BAD_PATH: usize = 66;
+pub const REFUSED: usize = 68;
 
-pub const BAD_NUMBER: usize = 67;
+pub const BAD_PATH: usize = 69;
 
-pub const BAD_HEX: usize = 68;
+pub const BAD_NUMBER: usize = 70;
 
-pub const BAD_TYPE: usize = 69;
+pub const BAD_HEX: usize = 71;
 
-pub const TOO_LONG: usize = 70;
+pub const BAD_TYPE: usize = 72;
 
-pub const WORDS: usize = 71;
+pub const TOO_LONG: usize = 73;
 
-pub const NO_COMMAND: usize = 72;
+pub const WORDS: usize = 74;
 
-pub const ONE_BYTE: usize = 73;
+pub const NO_COMMAND: usize = 75;
 
-pub const FOUR_BYTES: usize = 74;
+pub const ONE_BYTE: usize = 76;
 
-pub const REST_BYTES: usize = 75;
+pub const FOUR_BYTES: usize = 77;
 
-pub const NO_WORD: usize = 76;
+pub const REST_BYTES: usize = 78;
 
-pub const BAD_CELL: usize = 77;
+pub const NO_WORD: usize = 79;
 
-pub const LONG_LINE: usize = 78;
+pub const BAD_CELL: usize = 80;
 
-pub const NOT_ONE: usize = 79;
+pub const LONG_LINE: usize = 81;
 
-pub const NOT_UNDERSTOOD: usize = 80;
+pub const NOT_ONE: usize = 82;
 
-pub const LINES: usize = 81;
+pub const NOT_UNDERSTOOD: usize = 83;
 
-pub const NOT_WRITTEN: usize = 82;
+pub const LINES: usize = 84;
+
+pub const NOT_WRITTEN: usize = 85;
 
 // The six types of levels, from 0 on.
-pub const TYPES: usize = 83;
+pub const TYPES: usize = 86;
 
-pub const EMPTY: usize = 89;
+pub const EMPTY: usize = 92;
 
 // The refusals from 1 on stand behind this row.
-pub const REFUSALS: usize = 90;
+pub const REFUSALS: usize = 93;
 
 // A row without the blanks at its end.
 pub fn row(rows: &[u8], k: usize) -> &[u8] {

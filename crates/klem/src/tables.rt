@@ -1,4 +1,4 @@
-// Whole tables.
+// Whole tables, and images of the namespace.
 use crate::arg::Args;
 use crate::rows;
 use crate::said;
@@ -46,6 +46,23 @@ pub fn write(
     match header::write(&letters, low_byte(a.x), &rest, body, &mut out[begin..end]) {
         WriteAnswer::Refused(e) => show::said(out, at, said::refused(e), rows),
         WriteAnswer::Length(n) => show::sum(begin, hexed(&mut out[begin..], n)),
+    }
+}
+
+// An image stands where its hex is to stand, and is then made hex there.
+pub fn image(room: u64, table: &[u64], rows: &[u8], out: &mut [u8], at: usize) -> usize {
+    let told = show::text(out, at, rows::row(rows, rows::OK));
+    let begin = show::byte(out, told, b' ');
+    let end = show::sum(begin, room as usize);
+    if end < begin {
+        return at;
+    }
+    if out.len() < end {
+        return at;
+    }
+    match image::write(table, &mut out[begin..end]) {
+        image::WriteAnswer::Refused(e) => show::said(out, at, said::refused(e), rows),
+        image::WriteAnswer::Length(n) => show::sum(begin, hexed(&mut out[begin..], n)),
     }
 }
 

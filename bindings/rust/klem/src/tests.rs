@@ -131,17 +131,19 @@ fn a_call_writes_its_whole_result_or_none_of_it() {
         assert_eq!(refused(|p, l| raw::klem_levels(t, TABLE, r, PATH, q, 0, p, l)), Error::OutTooSmall(1));
         assert_eq!(number(|p, l| raw::klem_levels(t, TABLE, r, PATH, q, 2, p, l)), 0);
         assert_eq!(list, [0, 7]);
-        let mut image = [7; 7];
+        // three names of two objects: 296 bits
+        let mut image = [7; 38];
         let i = image.as_mut_ptr();
-        assert_eq!(refused(|p, l| raw::klem_image_write(t, TABLE, i, 5, p, l)), Error::OutTooSmall(0));
-        assert_eq!(image, [7; 7]);
-        assert_eq!(refused(|p, l| raw::klem_image_write(t, 0, i, 7, p, l)), Error::BadTable);
-        assert_eq!(number(|p, l| raw::klem_image_write(t, TABLE, i, 7, p, l)), 0);
-        assert_eq!(image, [0x10, 0, 0, 0, 0, 0, 7]);
-        assert_eq!(refused(|p, l| raw::klem_image_read(i, 7, t, TABLE, p, l)), Error::ImageBytesLeft(48));
+        assert_eq!(refused(|p, l| raw::klem_image_write(t, TABLE, i, 36, p, l)), Error::OutTooSmall(0));
+        assert_eq!(image, [7; 38]);
+        assert_eq!(refused(|p, l| raw::klem_image_write(t, 0, i, 38, p, l)), Error::BadTable);
+        assert_eq!(number(|p, l| raw::klem_image_write(t, TABLE, i, 38, p, l)), 0);
+        assert_eq!((&image[..4], image[37]), (&[0x10, 0, 0x0C, 2][..], 7));
+        let i = image.as_ptr();
+        assert_eq!(refused(|p, l| raw::klem_image_read(i, 38, t, TABLE, p, l)), Error::ImageBytesLeft(296));
         assert_eq!(refused(|p, l| raw::klem_image_read(n, 0, t, TABLE, p, l)), Error::ImageEndedEarly(0));
-        assert_eq!(refused(|p, l| raw::klem_image_read(i, 6, t, 0, p, l)), Error::BadTable);
-        assert_eq!(number(|p, l| raw::klem_image_read(i, 6, t, TABLE, p, l)), 0);
+        assert_eq!(refused(|p, l| raw::klem_image_read(i, 37, t, 0, p, l)), Error::BadTable);
+        assert_eq!(number(|p, l| raw::klem_image_read(i, 37, t, TABLE, p, l)), 0);
 
         assert_eq!(number(|p, l| raw::klem_check(block.as_ptr(), 3, p, l)), 0);
         assert_eq!(refused(|p, l| raw::klem_check(block.as_ptr(), 2, p, l)), Error::UnexpectedEndOfStream(2));

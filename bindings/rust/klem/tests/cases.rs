@@ -1,7 +1,7 @@
 //! Document 01's worked cases, with the answers that it gives, through the archive; the twelve with a P are its proved ones.
 use klem::{
-    check, is_digit_char, is_lead_name_char, is_name_char, name_string, pkg_length, raw_pkg_length, run, Component, Counts, Ended, Error, Found, FoundLevel,
-    Frame, Handle, Level, LevelType, Path, PkgLength, Run, Table, Width,
+    check, is_digit_char, is_lead_name_char, is_name_char, name_string, pkg_length, raw_pkg_length, run, Component, Counts, Ended, Error, Found,
+    FoundLevel, Frame, Handle, Level, LevelType, Path, PkgLength, Run, Table, Width,
 };
 use klem::{write_table, Header, Signature};
 

@@ -9,7 +9,7 @@ abbrev Inv-loop : tie.InvT-loop
 Inv-loop rows word k₀ k = Unit {0}
 
 abbrev μ-loop : tie.MeasureT-loop
-μ-loop rows word k₀ k = 41 - k
+μ-loop rows word k₀ k = 43 - k
 
 pub find-spec : {M : Type 1} → statement M
 find-spec =

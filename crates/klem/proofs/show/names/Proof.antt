@@ -11,7 +11,7 @@ abbrev Inv-loop : tie.InvT-loop
 Inv-loop out₀ at rows o₀ k₀ out o k = length out ≡ length out₀
 
 abbrev μ-loop : tie.MeasureT-loop
-μ-loop out₀ at rows o₀ k₀ out o k = 41 - k
+μ-loop out₀ at rows o₀ k₀ out o k = 43 - k
 
 pub names-spec : {M : Type 1} → statement M
 names-spec =
