@@ -2,7 +2,7 @@
 use mathlib.Core.Path.{_≡_, refl, ap, sym, _∙_}
 use mathlib.Core.Bool.{Bool, true, false, cond}
 use mathlib.Core.List.{List, [], _∷_, _++_}
-use Prim.Native.Nat.{ℕ, _-_, _<_, _≤_}
+use Prim.Native.Nat.{ℕ, _-_, _*_, _<_, _≤_}
 use native.Mathlib.Omega.{arith}
 use lib.Dec.{leb, eqb}
 use lib.ListN.{length, take, getD}
@@ -61,7 +61,7 @@ bare-one name h e = one-kind _ _ _ _ first ∙ ap oneSegment (sym alone)
     first = unfold pathOk bytesOk in halves (kindOk true (getD (name .bytes) 0 0) (getD (name .bytes) 1 0) (getD (name .bytes) 2 0) (getD (name .bytes) 3 0)) _ (rw e at (halves (leb (name .count) componentLimit) _ h .1)) .0
 
 -- the segment itself
-module _ (name : AmlName) (hb : length (name .bytes) ≡ 128) (h : Bare componentLimit name) where
+module _ (name : AmlName) (hb : length (name .bytes) ≡ 4 * componentLimit) (h : Bare componentLimit name) where
   view : (cs : List Component) → oneSegment cs ≡ true → fine true cs ≡ true → (length cs ≡ 1) × SegAt (firstOf cs) × (firstOf cs ≡ getD cs 0 up)
   unfolding fine
   view [] b f = never b
@@ -91,7 +91,7 @@ module _ (name : AmlName) (hb : length (name .bytes) ≡ 128) (h : Bare componen
       alone (c ∷ x ∷ cs) e = absurd (omega arith)
 
 -- cutting
-pub cut-start : (name : AmlName) → length (name .bytes) ≡ 128 → Settled componentLimit name → name ≡ nameOf componentLimit (take (name .count) (pathOf name))
+pub cut-start : (name : AmlName) → length (name .bytes) ≡ 4 * componentLimit → Settled componentLimit name → name ≡ nameOf componentLimit (take (name .count) (pathOf name))
 cut-start name hb s = sym (ap (nameOf componentLimit) (lib.Seq.take-all (name .count) (pathOf name) (omega (arith, length-path name))) ∙ name-whole componentLimit name hb (s .path))
 
 pub cut-turn : (cs : List Component) (k : ℕ) (cut : AmlName) → 0 < k → k ≤ length cs → length cs ≤ componentLimit → cut ≡ nameOf componentLimit (take k cs) → popped cut ≡ nameOf componentLimit (take (k - 1) cs)
@@ -105,7 +105,7 @@ unfolding nameOf
 cut-count cs k cut h e = ap (λ (n : AmlName). n .count) e ∙ length-take-le k cs h
 
 -- a bare segment behind what was cut
-pub put-bare : (cs : List Component) (n : ℕ) (name : AmlName) (hb : length (name .bytes) ≡ 128) (h : Bare componentLimit name) (cut : AmlName) → n ≤ length cs → n < componentLimit → cut ≡ nameOf componentLimit (take n cs)
+pub put-bare : (cs : List Component) (n : ℕ) (name : AmlName) (hb : length (name .bytes) ≡ 4 * componentLimit) (h : Bare componentLimit name) (cut : AmlName) → n ≤ length cs → n < componentLimit → cut ≡ nameOf componentLimit (take n cs)
     → pushed cut (getD (name .bytes) 0 0) (getD (name .bytes) 1 0) (getD (name .bytes) 2 0) (getD (name .bytes) 3 0) ≡ nameOf componentLimit (take n cs ++ (firstOf (pathOf name) ∷ []))
 put-bare cs n name hb h cut l k e =
     ap (λ (x : AmlName). pushed x (getD (name .bytes) 0 0) (getD (name .bytes) 1 0) (getD (name .bytes) 2 0) (getD (name .bytes) 3 0)) e

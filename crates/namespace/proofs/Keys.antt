@@ -115,7 +115,7 @@ seg-number x a b c d s e =
     ap key (s .is) ∙ (λ i. number (e₁ i) (e₂ i) (e₃ i) (e₄ i))
 
 -- the loop that makes the keys: the first i are the path's
-module _ (name : AmlName) (hb : length (name .bytes) ≡ 128) (s : Settled componentLimit name) where
+module _ (name : AmlName) (hb : length (name .bytes) ≡ 4 * componentLimit) (s : Settled componentLimit name) where
   key-bytes : (i : ℕ) → 0 < i → i < name .count
       → getD (keys (pathOf name)) i 0 ≡ number (getD (name .bytes) (4 * i) 0) (getD (name .bytes) (4 * i + 1) 0) (getD (name .bytes) (4 * i + 2) 0) (getD (name .bytes) (4 * i + 3) 0)
   key-bytes i z h =

@@ -28,6 +28,7 @@ use crate::SearchAnswer;
 use crate::SearchSaid;
 use crate::ValueAnswer;
 use name_object::AmlName;
+use name_object::COMPONENTS;
 use path::PathAnswer;
 use path::PathSaid;
 use pkg_length::AmlError;
@@ -65,13 +66,13 @@ pub fn settled(path: AmlName) -> PathAnswer
 }
 
 // A path's components as the records have them: the root is 0, a segment is its number.
-fn keys_of(path: AmlName) -> [u64; 32]
+fn keys_of(path: AmlName) -> [u64; COMPONENTS]
     ensures { λ r. ⌜ (Settled componentLimit path → take (path .count) r ≡ keys (pathOf path)) ⌝ }
 {
     let n = path.count;
-    let mut keys = [0u64; 32];
+    let mut keys = [0u64; COMPONENTS];
     let mut i = 1;
-    while i < 32 {
+    while i < COMPONENTS {
         if n <= i {
             return keys;
         }
@@ -89,7 +90,7 @@ fn keys_of(path: AmlName) -> [u64; 32]
 
 // A path's keys, the first `count` of them, or what the path is refused with.
 pub struct PathKeys {
-    pub keys: [u64; 32],
+    pub keys: [u64; COMPONENTS],
     pub count: usize,
     pub said: PathSaid,
 }
@@ -119,7 +120,7 @@ fn no_keys(e: AmlError) -> PathKeys
     ensures { λ r. ⌜ r .said ≡ PathSaid.Refused e ⌝ }
 {
     PathKeys {
-        keys: [0; 32],
+        keys: [0; COMPONENTS],
         count: 0,
         said: PathSaid::Refused(e),
     }

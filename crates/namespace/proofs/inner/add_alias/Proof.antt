@@ -79,7 +79,7 @@ returns-2 c =
     let c3 = c .before .before .before in
     let c8 = c3 .before .before .before .before .before in
     let ws = c8 .args .table .now in
-    aliased-aim limits (omega arith) ws (c8 .pre .0) (c8 .args .path .now) (spotIn (take 128 ws) (take 512 (drop 128 ws)) (c8 .args .path .now)) refl (c8 .args .target .now) (c .before .aim .given .0 .0)
+    aliased-aim limits (omega arith) ws (c8 .pre .0) (c8 .args .path .now) (spotIn (take (limits .levels) ws) (take (limits .bindings) (drop (limits .levels) ws)) (c8 .args .path .now)) refl (c8 .args .target .now) (c .before .aim .given .0 .0)
     (sym (ap handleSaid (c .before .aim .given .1)) ∙ c3 .look-up .ensures)
 
 returns-3 : tie.Need-returns-3

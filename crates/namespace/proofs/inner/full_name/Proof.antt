@@ -1,5 +1,6 @@
 -- The path cut short, and one component more.
 use mathlib.Core.Path.{_≡_, _∙_}
+use Prim.Native.Nat.{_*_}
 use lib.ListN.{length}
 use Rattle.name_object.specs.Memory.{pathOf}
 use Rattle.path.proofs.Walks.{length-path}
@@ -23,7 +24,7 @@ push-requires c κs =
 
 returns : tie.Need-returns
 returns c =
-    let len : length (c .before .before .before .before .before .before .args .t3 .bytes) ≡ 128 = search needs in
+    let len : length (c .before .before .before .before .before .before .args .t3 .bytes) ≡ 4 * componentLimit = search needs in
     let c5 = c .before .before .before .before .before in
     let c6 = c5 .before in
     c .push .ensures ∙ put-bare (pathOf (c6 .args .scope)) (c6 .args .n) (c6 .args .t3) len (c6 .pre .1) (c5 .within .result) (omega (arith, length-path (c6 .args .scope), c6 .pre .2)) (c6 .pre .3) (c5 .within .ensures)

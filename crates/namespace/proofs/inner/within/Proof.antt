@@ -1,6 +1,6 @@
 -- What stands is the path cut to its count.
 use mathlib.Core.Path.{_≡_, ap, sym, _∙_}
-use Prim.Native.Nat.{ℕ, _-_, _≤_}
+use Prim.Native.Nat.{ℕ, _-_, _*_, _≤_}
 use lib.ListN.{length, take}
 use Rattle.name_object.specs.Component.{componentLimit}
 use Rattle.name_object.specs.Memory.{nameOf, pathOf}
@@ -22,7 +22,7 @@ abbrev μ-loop : tie.MeasureT-loop
 
 loop-holds : tie.Need-loop-holds Inv-loop μ-loop
 loop-holds c =
-    let len : length (c .args .name .bytes) ≡ 128 = search needs in
+    let len : length (c .args .name .bytes) ≡ 4 * componentLimit = search needs in
     (c .pre .1, omega arith, cut-start (c .args .name) len (c .pre .0))
 
 pop-requires : tie.Need-pop-requires Inv-loop μ-loop
