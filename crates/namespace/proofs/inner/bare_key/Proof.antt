@@ -12,7 +12,7 @@ returns : tie.Need-returns
 returns c =
     let start = c .before .before .before .before .before in
     let len : length (start .args .t1 .bytes) ≡ 4 * componentLimit = search needs in
-    c .number .ensures ∙ sym (bare-number (start .args .t1) len (start .pre))
+    c .number .ensures ∙ sym (bare-number componentLimit (start .args .t1) len (start .pre))
 
 pub bare-key-spec : {M : Type 1} → statement M
 bare-key-spec =

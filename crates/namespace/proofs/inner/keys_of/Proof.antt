@@ -23,14 +23,14 @@ loop-holds : tie.Need-loop-holds Inv-loop μ-loop
 loop-holds c =
     let a = c .args in
     let len : length (a .t1 .bytes) ≡ 4 * componentLimit = search needs in
-    (omega arith, omega arith, refl, refl, λ s. (omega (arith, settled-count componentLimit (a .t1) s), keys-first (a .t1) len s))
+    (omega arith, omega arith, refl, refl, λ s. (omega (arith, settled-count componentLimit (a .t1) s), keys-first componentLimit (a .t1) len s))
 
 returns : tie.Need-returns Inv-loop μ-loop
 returns c = λ s.
     let l = c .before .before .loop in
     let a = c .before .before .before .args in
     let len : length (a .t1 .bytes) ≡ 4 * componentLimit = search needs in
-    keys-whole (a .t1) len s (l .keys) (l .i) (omega (arith, l .inv .4 s .0, c .if1 .taken)) (l .inv .4 s .1)
+    keys-whole componentLimit (a .t1) len s (l .keys) (l .i) (omega (arith, l .inv .4 s .0, c .if1 .taken)) (l .inv .4 s .1)
 
 loop-again : tie.Need-loop-again Inv-loop μ-loop
 loop-again c =
@@ -43,7 +43,7 @@ loop-again c =
       simp length-set (l .inv .3),
       λ s. (
         omega arith,
-        keys-turn (a .t1) len s (l .keys) (l .i) _ (omega arith) (omega arith) (omega arith) (l .inv .4 s .1) (c .number .ensures),
+        keys-turn componentLimit (a .t1) len s (l .keys) (l .i) _ (omega arith) (omega arith) (omega arith) (l .inv .4 s .1) (c .number .ensures),
       ),
     )
 
@@ -52,7 +52,7 @@ returns-2 c = λ s.
     let l = c .before .loop in
     let a = c .before .before .args in
     let len : length (a .t1 .bytes) ≡ 4 * componentLimit = search needs in
-    keys-whole (a .t1) len s (l .keys) (l .i) (omega (arith, l .inv .4 s .0, settled-count componentLimit (a .t1) s)) (l .inv .4 s .1)
+    keys-whole componentLimit (a .t1) len s (l .keys) (l .i) (omega (arith, l .inv .4 s .0, settled-count componentLimit (a .t1) s)) (l .inv .4 s .1)
 
 pub keys-of-spec : {M : Type 1} → statement M
 keys-of-spec =
