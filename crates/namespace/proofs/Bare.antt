@@ -2,19 +2,19 @@
 use mathlib.Core.Path.{_≡_, refl, ap, sym, _∙_}
 use mathlib.Core.Bool.{Bool, true, false, cond}
 use mathlib.Core.List.{List, [], _∷_, _++_}
-use Prim.Native.Nat.{ℕ, _-_, _<_, _≤_}
+use Prim.Native.Nat.{ℕ, _-_, _*_, _<_, _≤_}
 use native.Mathlib.Omega.{arith}
 use lib.Dec.{leb, eqb}
 use lib.ListN.{length, take, getD}
 use lib.Seq.{length-take-le, take-take}
 use borrow.Author.Tests.{eqb-true}
-use Rattle.name_object.specs.Component.{Component, root, up, seg, leadOk, segOk, fine, spellOne, componentLimit}
+use Rattle.name_object.specs.Component.{Component, root, up, seg, leadOk, segOk, fine, spellOne}
 use Rattle.name_object.specs.Memory.{nameOf, kindOk, componentOf, components, bytesOk, pathOk, pathOf, pushed, popped}
 use Rattle.name_object.specs.declared.AmlName.{AmlName}
 use Rattle.pkg_length.proofs.Answers.{halves, never}
 use Rattle.name_object.proofs.Paths.{path-fine, name-whole, seg-lead}
 use Rattle.name_object.proofs.Memory.{push-one}
-use Rattle.path.proofs.Walks.{length-path, path-byte}
+use Rattle.path.proofs.Walks.{length-path, byte-at}
 use Rattle.name_object.proofs.Memory.{pop-last}
 use Rattle.table.specs.Tree.{number, key}
 use Rattle.path.specs.Normal.{oneSegment}
@@ -51,17 +51,17 @@ one-kind a b c d h = go (eqb a 0x5C) (eqb a 0x5E) refl refl h
     go false true p q h = ap leadOk (eqb-true a 0x5E q) ∙ lead-up
     go false false p q h = seg-lead a b c d h
 
-pub bare-one : (name : AmlName) → pathOk componentLimit name ≡ true → name .count ≡ 1 → leadOk (getD (name .bytes) 0 0) ≡ oneSegment (pathOf name)
-bare-one name h e = one-kind _ _ _ _ first ∙ ap oneSegment (sym alone)
+pub bare-one : (limit : ℕ) (name : AmlName) → pathOk limit name ≡ true → name .count ≡ 1 → leadOk (getD (name .bytes) 0 0) ≡ oneSegment (pathOf name)
+bare-one limit name h e = one-kind _ _ _ _ first ∙ ap oneSegment (sym alone)
   where
     alone : pathOf name ≡ componentOf (getD (name .bytes) 0 0) (getD (name .bytes) 1 0) (getD (name .bytes) 2 0) (getD (name .bytes) 3 0) ∷ []
     alone = unfold pathOf components in rw e
 
     first : kindOk true (getD (name .bytes) 0 0) (getD (name .bytes) 1 0) (getD (name .bytes) 2 0) (getD (name .bytes) 3 0) ≡ true
-    first = unfold pathOk bytesOk in halves (kindOk true (getD (name .bytes) 0 0) (getD (name .bytes) 1 0) (getD (name .bytes) 2 0) (getD (name .bytes) 3 0)) _ (rw e at (halves (leb (name .count) componentLimit) _ h .1)) .0
+    first = unfold pathOk bytesOk in halves (kindOk true (getD (name .bytes) 0 0) (getD (name .bytes) 1 0) (getD (name .bytes) 2 0) (getD (name .bytes) 3 0)) _ (rw e at (halves (leb (name .count) limit) _ h .1)) .0
 
 -- the segment itself
-module _ (name : AmlName) (hb : length (name .bytes) ≡ 128) (h : Bare componentLimit name) where
+module _ (limit : ℕ) (name : AmlName) (hb : length (name .bytes) ≡ 4 * limit) (h : Bare limit name) where
   view : (cs : List Component) → oneSegment cs ≡ true → fine true cs ≡ true → (length cs ≡ 1) × SegAt (firstOf cs) × (firstOf cs ≡ getD cs 0 up)
   unfolding fine
   view [] b f = never b
@@ -71,13 +71,13 @@ module _ (name : AmlName) (hb : length (name .bytes) ≡ 128) (h : Bare componen
   view (seg p q r s ∷ x ∷ cs) b f = never b
 
   seen : (length (pathOf name) ≡ 1) × SegAt (firstOf (pathOf name)) × (firstOf (pathOf name) ≡ getD (pathOf name) 0 up)
-  seen = view (pathOf name) (h .alone) (path-fine componentLimit name (h .path) .0)
+  seen = view (pathOf name) (h .alone) (path-fine limit name (h .path) .0)
 
   pub bare-count : name .count ≡ 1
   bare-count = sym (length-path name) ∙ seen .0
 
   pub bare-bytes : spellOne (firstOf (pathOf name)) ≡ getD (name .bytes) 0 0 ∷ getD (name .bytes) 1 0 ∷ getD (name .bytes) 2 0 ∷ getD (name .bytes) 3 0 ∷ []
-  bare-bytes = ap spellOne (seen .2) ∙ path-byte name 0 hb (h .path) (omega (arith, bare-count))
+  bare-bytes = ap spellOne (seen .2) ∙ byte-at limit name 0 (record { size = hb; ok = h .path }) (omega (arith, bare-count))
 
   pub bare-number : key (firstOf (pathOf name)) ≡ number (getD (name .bytes) 0 0) (getD (name .bytes) 1 0) (getD (name .bytes) 2 0) (getD (name .bytes) 3 0)
   bare-number = seg-number (firstOf (pathOf name)) _ _ _ _ (seen .1) bare-bytes
@@ -91,22 +91,22 @@ module _ (name : AmlName) (hb : length (name .bytes) ≡ 128) (h : Bare componen
       alone (c ∷ x ∷ cs) e = absurd (omega arith)
 
 -- cutting
-pub cut-start : (name : AmlName) → length (name .bytes) ≡ 128 → Settled componentLimit name → name ≡ nameOf componentLimit (take (name .count) (pathOf name))
-cut-start name hb s = sym (ap (nameOf componentLimit) (lib.Seq.take-all (name .count) (pathOf name) (omega (arith, length-path name))) ∙ name-whole componentLimit name hb (s .path))
+pub cut-start : (limit : ℕ) (name : AmlName) → length (name .bytes) ≡ 4 * limit → Settled limit name → name ≡ nameOf limit (take (name .count) (pathOf name))
+cut-start limit name hb s = sym (ap (nameOf limit) (lib.Seq.take-all (name .count) (pathOf name) (omega (arith, length-path name))) ∙ name-whole limit name hb (s .path))
 
-pub cut-turn : (cs : List Component) (k : ℕ) (cut : AmlName) → 0 < k → k ≤ length cs → length cs ≤ componentLimit → cut ≡ nameOf componentLimit (take k cs) → popped cut ≡ nameOf componentLimit (take (k - 1) cs)
-cut-turn cs k cut z h l e =
+pub cut-turn : (limit : ℕ) (cs : List Component) (k : ℕ) (cut : AmlName) → 0 < k → k ≤ length cs → length cs ≤ limit → cut ≡ nameOf limit (take k cs) → popped cut ≡ nameOf limit (take (k - 1) cs)
+cut-turn limit cs k cut z h l e =
     let n = length-take-le k cs h in
-    ap popped e ∙ pop-last componentLimit (take k cs) (omega arith) (omega arith)
-    ∙ ap (nameOf componentLimit) (ap (λ (i : ℕ). take (i - 1) (take k cs)) n ∙ take-take (k - 1) k cs (omega arith))
+    ap popped e ∙ pop-last limit (take k cs) (omega arith) (omega arith)
+    ∙ ap (nameOf limit) (ap (λ (i : ℕ). take (i - 1) (take k cs)) n ∙ take-take (k - 1) k cs (omega arith))
 
-pub cut-count : (cs : List Component) (k : ℕ) (cut : AmlName) → k ≤ length cs → cut ≡ nameOf componentLimit (take k cs) → cut .count ≡ k
+pub cut-count : (limit : ℕ) (cs : List Component) (k : ℕ) (cut : AmlName) → k ≤ length cs → cut ≡ nameOf limit (take k cs) → cut .count ≡ k
 unfolding nameOf
-cut-count cs k cut h e = ap (λ (n : AmlName). n .count) e ∙ length-take-le k cs h
+cut-count limit cs k cut h e = ap (λ (n : AmlName). n .count) e ∙ length-take-le k cs h
 
 -- a bare segment behind what was cut
-pub put-bare : (cs : List Component) (n : ℕ) (name : AmlName) (hb : length (name .bytes) ≡ 128) (h : Bare componentLimit name) (cut : AmlName) → n ≤ length cs → n < componentLimit → cut ≡ nameOf componentLimit (take n cs)
-    → pushed cut (getD (name .bytes) 0 0) (getD (name .bytes) 1 0) (getD (name .bytes) 2 0) (getD (name .bytes) 3 0) ≡ nameOf componentLimit (take n cs ++ (firstOf (pathOf name) ∷ []))
-put-bare cs n name hb h cut l k e =
+pub put-bare : (limit : ℕ) (cs : List Component) (n : ℕ) (name : AmlName) (hb : length (name .bytes) ≡ 4 * limit) (h : Bare limit name) (cut : AmlName) → n ≤ length cs → n < limit → cut ≡ nameOf limit (take n cs)
+    → pushed cut (getD (name .bytes) 0 0) (getD (name .bytes) 1 0) (getD (name .bytes) 2 0) (getD (name .bytes) 3 0) ≡ nameOf limit (take n cs ++ (firstOf (pathOf name) ∷ []))
+put-bare limit cs n name hb h cut l k e =
     ap (λ (x : AmlName). pushed x (getD (name .bytes) 0 0) (getD (name .bytes) 1 0) (getD (name .bytes) 2 0) (getD (name .bytes) 3 0)) e
-    ∙ push-one componentLimit (take n cs) (firstOf (pathOf name)) _ _ _ _ (omega (arith, length-take-le n cs l)) (bare-bytes name hb h)
+    ∙ push-one limit (take n cs) (firstOf (pathOf name)) _ _ _ _ (omega (arith, length-take-le n cs l)) (bare-bytes limit name hb h)

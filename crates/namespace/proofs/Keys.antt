@@ -12,7 +12,7 @@ use borrow.Author.Tests.{ltb-true, ltb-false}
 use Rattle.pkg_length.proofs.Answers.{halves, never, refuses-not, gives-same}
 use Rattle.pkg_length.specs.Refusal.{Answer, gives, refuses, refused, andThen}
 use Rattle.pkg_length.specs.declared.AmlError.{AmlError}
-use Rattle.name_object.specs.Component.{Component, root, up, seg, segOk, fine, spellOne, componentLimit}
+use Rattle.name_object.specs.Component.{Component, root, up, seg, segOk, fine, spellOne}
 use Rattle.name_object.specs.Memory.{told, nameOf, pathOk, pathOf, pathIn}
 use Rattle.name_object.specs.declared.AmlName.{AmlName}
 use Rattle.name_object.proofs.Paths.{path-fine, fine-path}
@@ -20,7 +20,7 @@ use Rattle.path.specs.Normal.{absolute, isNormal, normal, resolved, alone, path
 use Rattle.path.specs.declared.PathSaid.{PathSaid}
 use Rattle.path.specs.declared.PathAnswer.{PathAnswer}
 use Rattle.path.proofs.Laws.{Kept, kept-view, normal-kept, resolved-kept}
-use Rattle.path.proofs.Walks.{length-path, path-byte}
+use Rattle.path.proofs.Walks.{length-path, byte-at}
 use Rattle.path.proofs.Answers.{said-done, said-refused}
 use Rattle.table.specs.Tree.{number, key, keys}
 use Rattle.table.specs.Valid.{segmentOk}
@@ -115,12 +115,12 @@ seg-number x a b c d s e =
     ap key (s .is) ∙ (λ i. number (e₁ i) (e₂ i) (e₃ i) (e₄ i))
 
 -- the loop that makes the keys: the first i are the path's
-module _ (name : AmlName) (hb : length (name .bytes) ≡ 128) (s : Settled componentLimit name) where
+module _ (limit : ℕ) (name : AmlName) (hb : length (name .bytes) ≡ 4 * limit) (s : Settled limit name) where
   key-bytes : (i : ℕ) → 0 < i → i < name .count
       → getD (keys (pathOf name)) i 0 ≡ number (getD (name .bytes) (4 * i) 0) (getD (name .bytes) (4 * i + 1) 0) (getD (name .bytes) (4 * i + 2) 0) (getD (name .bytes) (4 * i + 3) 0)
   key-bytes i z h =
       key-getD (pathOf name) i
-      ∙ seg-number (getD (pathOf name) i up) _ _ _ _ (seg-at componentLimit (pathOf name) (settled-kept componentLimit name s) i z (omega (arith, length-path name))) (path-byte name i hb (s .path) h)
+      ∙ seg-number (getD (pathOf name) i up) _ _ _ _ (seg-at limit (pathOf name) (settled-kept limit name s) i z (omega (arith, length-path name))) (byte-at limit name i (record { size = hb; ok = s .path }) h)
 
   pub keys-turn : (ks : List ℕ) (i x : ℕ) → 0 < i → i < name .count → i < length ks → take i ks ≡ take i (keys (pathOf name))
       → x ≡ number (getD (name .bytes) (4 * i) 0) (getD (name .bytes) (4 * i + 1) 0) (getD (name .bytes) (4 * i + 2) 0) (getD (name .bytes) (4 * i + 3) 0)
@@ -131,8 +131,8 @@ module _ (name : AmlName) (hb : length (name .bytes) ≡ 128) (s : Settled compo
 
   pub keys-first : 0 ∷ [] ≡ take 1 (keys (pathOf name))
   keys-first =
-      sym (take-suc (keys (pathOf name)) 0 0 (omega (arith, length-keys (pathOf name), some-kept componentLimit (pathOf name) (settled-kept componentLimit name s)))
-      ∙ ap (λ (y : ℕ). y ∷ []) (key-first componentLimit (pathOf name) (settled-kept componentLimit name s)))
+      sym (take-suc (keys (pathOf name)) 0 0 (omega (arith, length-keys (pathOf name), some-kept limit (pathOf name) (settled-kept limit name s)))
+      ∙ ap (λ (y : ℕ). y ∷ []) (key-first limit (pathOf name) (settled-kept limit name s)))
 
   pub keys-whole : (ks : List ℕ) (i : ℕ) → i ≡ name .count → take i ks ≡ take i (keys (pathOf name)) → take (name .count) ks ≡ keys (pathOf name)
   keys-whole ks i e h =

@@ -39,15 +39,15 @@ module _ (ws : List ℕ) (ok : wellFormed limits ws ≡ true) (scope : AmlName) 
 
   -- values
   abbrev near : Answer (Deep ℕ)
-  near = deepest (valueHeld (take 128 ws) (take 512 (drop 128 ws)) (keys ns) (key c)) (length ns)
+  near = deepest (valueHeld (take (limits .levels) ws) (take (limits .bindings) (drop (limits .levels) ws)) (keys ns) (key c)) (length ns)
 
   search-is : searchUp limits t c ns ≡ named c (λ f. record { handle = f .value; asked = f .asked }) (foundOf ns (length ns) (refuses 16 0) near)
   unfolding searchUp
   search-is = ap (named c (λ f. record { handle = f .value; asked = f .asked })) (value-search limits (omega arith) ws ok c ns)
 
-  module _ (q : Nearest) (e : q ≡ nearestOf (deepest (valueHeld (take 128 ws) (take 512 (drop 128 ws)) (keys ns) (key c)) (length (keys ns)))) where
+  module _ (q : Nearest) (e : q ≡ nearestOf (deepest (valueHeld (take (limits .levels) ws) (take (limits .bindings) (drop (limits .levels) ws)) (keys ns) (key c)) (length (keys ns)))) where
     found-is : q ≡ nearestOf near
-    found-is = e ∙ ap (λ (n : ℕ). nearestOf (deepest (valueHeld (take 128 ws) (take 512 (drop 128 ws)) (keys ns) (key c)) n)) (length-keys ns)
+    found-is = e ∙ ap (λ (n : ℕ). nearestOf (deepest (valueHeld (take (limits .levels) ws) (take (limits .bindings) (drop (limits .levels) ws)) (keys ns) (key c)) n)) (length-keys ns)
 
     pub up-none : q .depth ≡ 0 → searchUp limits t c ns ≡ refuses 16 0
     up-none z = go near refl
@@ -85,15 +85,15 @@ module _ (ws : List ℕ) (ok : wellFormed limits ws ≡ true) (scope : AmlName) 
 
   -- levels
   abbrev nearLevel : Answer (Deep (Unit {0}))
-  nearLevel = deepest (levelHeld (take 128 ws) (keys ns) (key c)) (length ns)
+  nearLevel = deepest (levelHeld (take (limits .levels) ws) (keys ns) (key c)) (length ns)
 
   level-is : levelUp limits t c ns ≡ named c (λ f. f .asked) (foundOf ns (length ns) (refuses 15 1) nearLevel)
   unfolding levelUp
   level-is = ap (named c (λ f. f .asked)) (level-search limits (omega arith) ws ok c ns)
 
-  module _ (k : ℕ) (e : k ≡ depthOf (deepest (levelHeld (take 128 ws) (keys ns) (key c)) (length (keys ns)))) where
+  module _ (k : ℕ) (e : k ≡ depthOf (deepest (levelHeld (take (limits .levels) ws) (keys ns) (key c)) (length (keys ns)))) where
     depth-found : k ≡ depthOf nearLevel
-    depth-found = e ∙ ap (λ (n : ℕ). depthOf (deepest (levelHeld (take 128 ws) (keys ns) (key c)) n)) (length-keys ns)
+    depth-found = e ∙ ap (λ (n : ℕ). depthOf (deepest (levelHeld (take (limits .levels) ws) (keys ns) (key c)) n)) (length-keys ns)
 
     pub level-none : k ≡ 0 → levelUp limits t c ns ≡ refuses 15 1
     level-none z = go nearLevel refl

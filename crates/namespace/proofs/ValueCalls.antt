@@ -18,16 +18,17 @@ use Rattle.path.specs.Normal.{resolved}
 use Rattle.table.specs.Limits.{Limits}
 use Rattle.table.specs.Tree.{Tree, bound, keys}
 use Rattle.table.specs.Layout.{encode}
-use Rattle.table.specs.Memory.{wellFormed, decode, Edited, left}
+use Rattle.table.specs.Memory.{wellFormed, decode, size, Edited, left}
 use Rattle.table.specs.Edits.{alter, scopeOf, lastOf, withBinding, withLevels, withObjects, nextHandle, lookUp, bind, addValue, addAlias}
 use Rattle.namespace.specs.Calls.{aliasAt, addAliasCall}
-use Rattle.namespace.specs.Inside.{againstKeys}
+use Rattle.namespace.specs.Inside.{Spare, RoomFor, againstKeys}
+use Rattle.namespace.specs.declared.inner.Room.{Room}
 use Rattle.table.specs.Inside.{spotIn, bindWords}
 use Rattle.table.specs.declared.inner.Spot.{Spot}
-use Rattle.table.proofs.Objects.{whole, made-is, means-formed, means-unformed}
+use Rattle.table.proofs.Objects.{long, whole, made-is, means-formed, means-unformed}
 use Rattle.table.proofs.Held.{bindings-room, bindings-full}
 use Rattle.table.proofs.BindCalls.{spot-refused, spot-bound, spot-live, spot-open, Open}
-use Rattle.table.proofs.BindWords.{bind-full, bind-room, bound-words, value-words}
+use Rattle.table.proofs.BindWords.{bind-place, word-low, bind-length, bind-full, bind-room, bound-words, value-words}
 use Rattle.table.proofs.Whole.{small-handles}
 
 module _ {A : Type 0} (m : Limits) (ws : List ℕ) where
@@ -87,68 +88,86 @@ module _ (m : Limits) (hm : m .objects ≤ 2 ^ 32) (ws : List ℕ) (ok : wellFor
     pub looked-refused : (x : AmlError) → r ≡ Spot.Refused x → refused x ≡ lookUp (decode m ws) p
     looked-refused x d = sym (spot-refused m hm ws ok p r e x d .0)
 
-    -- a value more
-    module _ (v : ℕ) where
-      pub valued-refused : (x : AmlError) → r ≡ Spot.Refused x → record { words = ws; said = refused x } ≡ left m ws (addValue m (decode m ws) p v)
-      valued-refused x d = kept m ws _ _ (addValue m (decode m ws) p v) (add-refused m (decode m ws) p v _ _ (spot-refused m hm ws ok p r e x d .1 (nextHandle (decode m ws))))
+    -- room for a name
+    no-room : (x : AmlError) → ((h : ℕ) → bind m (decode m ws) p h ≡ refused x) → RoomFor m ws p (Room.Refused x)
+    no-room x f =
+        record { there = λ k i d. absurd (let n : _≡_ {A = ℕ} 0 1 = cc in omega arith); stopped = λ y d h. f h ∙ (let g : x ≡ y = cc in ap refused g) }
 
-      pub valued-bound : (h : ℕ) → r ≡ Spot.Bound h → record { words = ws; said = refuses 17 0 } ≡ left m ws (addValue m (decode m ws) p v)
-      valued-bound h d = kept m ws 17 0 (addValue m (decode m ws) p v) (add-refused m (decode m ws) p v 17 0 (spot-bound m hm ws ok p r e h d .1 (nextHandle (decode m ws))))
+    pub room-refused : (x : AmlError) → r ≡ Spot.Refused x → RoomFor m ws p (Room.Refused x)
+    room-refused x d = no-room x (spot-refused m hm ws ok p r e x d .1)
 
-      module _ (z : 0 < m .bindings) (a i : ℕ) (d : r ≡ Spot.Free a i) where
-        open-at : Open m hm ws ok p r e a i
-        open-at = spot-open m hm ws ok p r e a i d
+    pub room-bound : (h : ℕ) → r ≡ Spot.Bound h → RoomFor m ws p (Room.Refused AmlError.NameCollision)
+    room-bound h d = no-room AmlError.NameCollision (spot-bound m hm ws ok p r e h d .1)
 
-        pub valued-full : (getD ws (m .levels + (m .bindings - 1)) 0 ≡ 0 → ⊥) → record { words = ws; said = refuses 19 0 } ≡ left m ws (addValue m (decode m ws) p v)
-        valued-full f =
-            kept m ws 19 0 (addValue m (decode m ws) p v) (add-refused m (decode m ws) p v 19 0 (bind-full m hm ws ok p r e a i open-at (full z f) (nextHandle (decode m ws))))
+    module _ (a i : ℕ) (d : r ≡ Spot.Free a i) where
+      pub room-full : 0 < m .bindings → (getD ws (m .levels + (m .bindings - 1)) 0 ≡ 0 → ⊥) → RoomFor m ws p (Room.Refused AmlError.BindingsFull)
+      room-full z f = no-room AmlError.BindingsFull (bind-full m hm ws ok p r e a i (spot-open m hm ws ok p r e a i d) (full z f))
 
-        module _ (f : getD ws (m .levels + (m .bindings - 1)) 0 ≡ 0) where
-          tied : bind m (decode m ws) p (length (decode m ws .objects))
-              ≡ gives (withLevels (decode m ws) (alter (withBinding (record { segment = lastOf p; handle = length (decode m ws .objects) })) (decode m ws .levels) (scopeOf p)))
-          tied = bind-room m hm ws ok p r e a i open-at (room z f) (length (decode m ws .objects))
+      pub room-there : getD ws (m .levels + (m .bindings - 1)) 0 ≡ 0 → RoomFor m ws p (Room.At a i)
+      room-there f =
+          record {
+            there = λ k j q.
+                let x : a ≡ k = cc in
+                let y : i ≡ j = cc in
+                record { free = sym e ∙ d ∙ (λ t. Spot.Free (x t) (y t)); last = f };
+            stopped = λ x q. absurd (let n : _≡_ {A = ℕ} 0 1 = cc in omega arith);
+          }
 
-          pub valued-none : m .objects ≤ getD ws (m .levels + m .bindings) 0 → record { words = ws; said = refuses 20 0 } ≡ left m ws (addValue m (decode m ws) p v)
-          valued-none l = kept m ws 20 0 (addValue m (decode m ws) p v) (add-full m (decode m ws) p v _ tied (rw (made-is m hm ws ok) at l))
+  -- the name bound there
+  module _ (p : List ℕ) (a i : ℕ) (s : Spare m ws p a i) where
+    opened : Open m hm ws ok p (Spot.Free a i) (sym (s .free)) a i
+    opened = spot-open m hm ws ok p (Spot.Free a i) (sym (s .free)) a i refl
 
-          pub valued : getD ws (m .levels + m .bindings) 0 < m .objects → (us : List ℕ) → us ≡ bindWords m ws a i (lastOf p * 2 ^ 32 + getD ws (m .levels + m .bindings) 0)
-              → record {
-                words = set (set us (m .levels + m .bindings + 1 + getD ws (m .levels + m .bindings) 0) v) (m .levels + m .bindings) (getD ws (m .levels + m .bindings) 0 + 1);
-                said = gives (getD ws (m .levels + m .bindings) 0);
-              } ≡ left m ws (addValue m (decode m ws) p v)
-          valued l us u =
-              ap₂ (λ (x : List ℕ) (n : ℕ). record { words = set (set x (m .levels + m .bindings + 1 + n) v) (m .levels + m .bindings) (n + 1); said = gives n })
-              (u ∙ ap (λ (n : ℕ). bindWords m ws a i (lastOf p * 2 ^ 32 + n)) (made-is m hm ws ok)) (made-is m hm ws ok)
-              ∙ given m ws _ _ (length (decode m ws .objects)) (addValue m (decode m ws) p v) (add-given m (decode m ws) p v _ tied live)
-              (value-words m hm ws ok p r e a i open-at (room z f) (length (decode m ws .objects)) v live)
-            where
-              live : length (decode m ws .objects) < m .objects
-              live = rw (made-is m hm ws ok) at l
+    pub spare-long : 1 < length p
+    spare-long = opened .more
 
-    -- an alias
-    module _ (q : List ℕ) where
-      pub aliased-aim : (x : AmlError) → refused x ≡ lookUp (decode m ws) q → record { words = ws; said = refused x } ≡ left m ws (addAlias m (decode m ws) p q)
-      aliased-aim x d = kept m ws _ _ (addAlias m (decode m ws) p q) (alias-aim m (decode m ws) p q _ _ (sym d))
+    pub spare-place : (a < m .levels) × (i ≤ m .bindings)
+    spare-place = bind-place m hm ws ok p (Spot.Free a i) (sym (s .free)) a i opened
 
-      module _ (h : ℕ) (g : gives h ≡ lookUp (decode m ws) q) where
-        pub aliased-refused : (x : AmlError) → r ≡ Spot.Refused x → record { words = ws; said = refused x } ≡ left m ws (addAlias m (decode m ws) p q)
-        aliased-refused x d = kept m ws _ _ (addAlias m (decode m ws) p q) (alias-refused m (decode m ws) p q h _ _ (sym g) (spot-refused m hm ws ok p r e x d .1 h))
+    pub spare-word : m .components ≤ 256 → getD ws a 0 + 2 ^ 32 < 2 ^ 64
+    spare-word = word-low m hm ws ok p (Spot.Free a i) (sym (s .free)) a i opened
 
-        pub aliased-bound : (k : ℕ) → r ≡ Spot.Bound k → record { words = ws; said = refuses 17 0 } ≡ left m ws (addAlias m (decode m ws) p q)
-        aliased-bound k d = kept m ws 17 0 (addAlias m (decode m ws) p q) (alias-refused m (decode m ws) p q h 17 0 (sym g) (spot-bound m hm ws ok p r e k d .1 h))
+    module _ (z : 0 < m .bindings) (h : ℕ) where
+      tied : bind m (decode m ws) p h ≡ gives (withLevels (decode m ws) (alter (withBinding (record { segment = lastOf p; handle = h })) (decode m ws .levels) (scopeOf p)))
+      tied = bind-room m hm ws ok p (Spot.Free a i) (sym (s .free)) a i opened (room z (s .last)) h
 
-        module _ (z : 0 < m .bindings) (a i : ℕ) (d : r ≡ Spot.Free a i) where
-          opened : Open m hm ws ok p r e a i
-          opened = spot-open m hm ws ok p r e a i d
+      pub aliased : (q : List ℕ) → gives h ≡ lookUp (decode m ws) q → (us : List ℕ) → us ≡ bindWords m ws a i (lastOf p * 2 ^ 32 + h)
+          → record { words = us; said = gives h } ≡ left m ws (addAlias m (decode m ws) p q)
+      aliased q g us u =
+          given m ws us _ h (addAlias m (decode m ws) p q) (alias-made m (decode m ws) p q h _ (sym g) tied)
+          (u ∙ bound-words m hm ws ok p (Spot.Free a i) (sym (s .free)) a i opened (room z (s .last)) h)
 
-          pub aliased-full : (getD ws (m .levels + (m .bindings - 1)) 0 ≡ 0 → ⊥) → record { words = ws; said = refuses 19 0 } ≡ left m ws (addAlias m (decode m ws) p q)
-          aliased-full f = kept m ws 19 0 (addAlias m (decode m ws) p q) (alias-refused m (decode m ws) p q h 19 0 (sym g) (bind-full m hm ws ok p r e a i opened (full z f) h))
+    module _ (z : 0 < m .bindings) (v : ℕ) where
+      pub valued-none : m .objects ≤ getD ws (m .levels + m .bindings) 0 → record { words = ws; said = refuses 20 0 } ≡ left m ws (addValue m (decode m ws) p v)
+      valued-none l = kept m ws 20 0 (addValue m (decode m ws) p v) (add-full m (decode m ws) p v _ (tied z (length (decode m ws .objects))) (rw (made-is m hm ws ok) at l))
 
-          pub aliased : getD ws (m .levels + (m .bindings - 1)) 0 ≡ 0 → (us : List ℕ) → us ≡ bindWords m ws a i (lastOf p * 2 ^ 32 + h)
-              → record { words = us; said = gives h } ≡ left m ws (addAlias m (decode m ws) p q)
-          aliased f us u =
-              given m ws us _ h (addAlias m (decode m ws) p q) (alias-made m (decode m ws) p q h _ (sym g) (bind-room m hm ws ok p r e a i opened (room z f) h))
-              (u ∙ bound-words m hm ws ok p r e a i opened (room z f) h)
+      pub valued : getD ws (m .levels + m .bindings) 0 < m .objects → (us : List ℕ) → us ≡ bindWords m ws a i (lastOf p * 2 ^ 32 + getD ws (m .levels + m .bindings) 0)
+          → record {
+            words = set (set us (m .levels + m .bindings + 1 + getD ws (m .levels + m .bindings) 0) v) (m .levels + m .bindings) (getD ws (m .levels + m .bindings) 0 + 1);
+            said = gives (getD ws (m .levels + m .bindings) 0);
+          } ≡ left m ws (addValue m (decode m ws) p v)
+      valued l us u =
+          ap₂ (λ (x : List ℕ) (n : ℕ). record { words = set (set x (m .levels + m .bindings + 1 + n) v) (m .levels + m .bindings) (n + 1); said = gives n })
+          (u ∙ ap (λ (n : ℕ). bindWords m ws a i (lastOf p * 2 ^ 32 + n)) (made-is m hm ws ok)) (made-is m hm ws ok)
+          ∙ given m ws _ _ (length (decode m ws .objects)) (addValue m (decode m ws) p v) (add-given m (decode m ws) p v _ (tied z (length (decode m ws .objects))) live)
+          (value-words m hm ws ok p (Spot.Free a i) (sym (s .free)) a i opened (room z (s .last)) (length (decode m ws .objects)) v live)
+        where
+          live : length (decode m ws .objects) < m .objects
+          live = rw (made-is m hm ws ok) at l
+
+  pub bound-length : (us : List ℕ) (a i x : ℕ) → us ≡ bindWords m ws a i x → length us ≡ size m
+  bound-length us a i x u = ap length u ∙ bind-length m ws a i x ∙ long m hm ws ok
+
+  -- no room for it
+  module _ (p : List ℕ) (r : Room) (f : RoomFor m ws p r) (x : AmlError) (d : r ≡ Room.Refused x) where
+    pub valued-refused : (v : ℕ) → record { words = ws; said = refused x } ≡ left m ws (addValue m (decode m ws) p v)
+    valued-refused v = kept m ws _ _ (addValue m (decode m ws) p v) (add-refused m (decode m ws) p v _ _ (f .stopped x d (nextHandle (decode m ws))))
+
+    pub aliased-refused : (q : List ℕ) (h : ℕ) → gives h ≡ lookUp (decode m ws) q → record { words = ws; said = refused x } ≡ left m ws (addAlias m (decode m ws) p q)
+    aliased-refused q h g = kept m ws _ _ (addAlias m (decode m ws) p q) (alias-refused m (decode m ws) p q h _ _ (sym g) (f .stopped x d h))
+
+  pub aliased-aim : (p q : List ℕ) (x : AmlError) → refused x ≡ lookUp (decode m ws) q → record { words = ws; said = refused x } ≡ left m ws (addAlias m (decode m ws) p q)
+  aliased-aim p q x d = kept m ws _ _ (addAlias m (decode m ws) p q) (alias-aim m (decode m ws) p q _ _ (sym d))
 
 -- the whole call of an alias: its path's keys, its target's, and then the edit
 module _ (m : Limits) (t : Tree) (cs ss ts : List Component) where

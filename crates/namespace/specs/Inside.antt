@@ -2,8 +2,8 @@
 use mathlib.Core.Path.{_≡_}
 use mathlib.Core.Bool.{true}
 use mathlib.Core.List.{List}
-use Prim.Native.Nat.{ℕ, _≤_}
-use lib.ListN.{take}
+use Prim.Native.Nat.{ℕ, _+_, _-_, _≤_}
+use lib.ListN.{take, drop, getD}
 use Rattle.pkg_length.specs.Refusal.{Answer, gives, refused, andThen}
 use Rattle.pkg_length.specs.declared.AmlError.{AmlError}
 use Rattle.name_object.specs.Component.{Component}
@@ -14,9 +14,12 @@ use Rattle.path.specs.declared.PathAnswer.{PathAnswer}
 use Rattle.path.specs.declared.PathSaid.{PathSaid}
 use Rattle.table.specs.Limits.{Limits}
 use Rattle.table.specs.Tree.{keys as keysOf}
-use Rattle.table.specs.Memory.{wellFormed, means}
-use Rattle.table.specs.Inside.{Keyed}
+use Rattle.table.specs.Memory.{wellFormed, decode, means}
+use Rattle.table.specs.Edits.{bind}
+use Rattle.table.specs.Inside.{spotIn, Keyed}
+use Rattle.table.specs.declared.inner.Spot.{Spot}
 use Rattle.namespace.specs.declared.inner.PathKeys.{PathKeys}
+use Rattle.namespace.specs.declared.inner.Room.{Room}
 
 -- memory that holds a normal absolute path
 pub record Settled (limit : ℕ) (name : AmlName) : Type 0 where
@@ -53,3 +56,13 @@ againstKeys limit cs ss = andThen (resolved limit cs ss) (λ ns. gives (keysOf n
 pub record Ready (m : Limits) (ws : List ℕ) (a : Answer (List ℕ)) (r : PathKeys) : Type 0 where
   pub given : r .said ≡ PathSaid.Done → (wellFormed m ws ≡ true) × Given (m .components) a r
   pub stopped : (e : AmlError) → r .said ≡ PathSaid.Refused e → andThen (means m ws) (λ t. a) ≡ refused e
+
+-- a path's last segment is free: its word would stand at index i of the bindings, its level's record being at index k, and the last binding is spare
+pub record Spare (m : Limits) (ws p : List ℕ) (k i : ℕ) : Type 0 where
+  pub free : spotIn (take (m .levels) ws) (take (m .bindings) (drop (m .levels) ws)) p ≡ Spot.Free k i
+  pub last : getD ws (m .levels + (m .bindings - 1)) 0 ≡ 0
+
+-- room for a path's last segment, or what binding it to whatever handle is refused with
+pub record RoomFor (m : Limits) (ws p : List ℕ) (r : Room) : Type 0 where
+  pub there : (k i : ℕ) → r ≡ Room.At k i → Spare m ws p k i
+  pub stopped : (e : AmlError) → r ≡ Room.Refused e → (h : ℕ) → bind m (decode m ws) p h ≡ refused e

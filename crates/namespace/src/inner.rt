@@ -2,7 +2,7 @@
 ghost use mathlib.Core.Path.{_≡_};
 ghost use mathlib.Core.Bool.{true, false, cond};
 ghost use mathlib.Core.List.{[], _∷_, _++_};
-ghost use Prim.Native.Nat.{ℕ, _+_, _-_, _*_, _<_, _≤_};
+ghost use Prim.Native.Nat.{ℕ, _+_, _-_, _*_, _^_, _<_, _≤_};
 ghost use lib.ListN.{take};
 ghost use Rattle.pkg_length.specs.Refusal.{andThen, refused};
 ghost use Rattle.name_object.specs.Component.{componentLimit};
@@ -11,13 +11,13 @@ ghost use Rattle.path.specs.Normal.{alone, pathTold, oneSegment};
 ghost use Rattle.table.specs.Limits.{limits};
 ghost use Rattle.table.specs.Tree.{key, keys};
 ghost use Rattle.table.specs.Memory.{wellFormed, decode, left, done};
-ghost use Rattle.table.specs.Edits.{addLevel, removeLevel, lookUp, addValue, addAlias, valueOf, setValue};
+ghost use Rattle.table.specs.Edits.{lastOf, addLevel, removeLevel, lookUp, addValue, addAlias, valueOf, setValue};
 ghost use Rattle.table.specs.Search.{searchUp, levelUp};
-ghost use Rattle.table.specs.Inside.{Keyed};
+ghost use Rattle.table.specs.Inside.{bindWords, Keyed};
 ghost use Rattle.path.specs.declared.PathSaid.{PathSaid};
 ghost use Rattle.namespace.specs.Calls.{settled, settledKeys, resolvedKeys, editLeft, valueSaid, handleSaid, handleLeft, typeNumber, aliasAt};
 ghost use Rattle.namespace.specs.Search.{searchTold, searchOnce, searchCall, levelTold, levelCall, firstOf};
-ghost use Rattle.namespace.specs.Inside.{Settled, Bare, KeysIn, Keys, Ready, againstKeys};
+ghost use Rattle.namespace.specs.Inside.{Settled, Bare, KeysIn, Keys, Ready, Spare, RoomFor, againstKeys};
 use crate::AmlHandle;
 use crate::EditAnswer;
 use crate::HandleAnswer;
@@ -28,6 +28,7 @@ use crate::SearchAnswer;
 use crate::SearchSaid;
 use crate::ValueAnswer;
 use name_object::AmlName;
+use name_object::COMPONENTS;
 use path::PathAnswer;
 use path::PathSaid;
 use pkg_length::AmlError;
@@ -65,13 +66,13 @@ pub fn settled(path: AmlName) -> PathAnswer
 }
 
 // A path's components as the records have them: the root is 0, a segment is its number.
-fn keys_of(path: AmlName) -> [u64; 32]
+fn keys_of(path: AmlName) -> [u64; COMPONENTS]
     ensures { λ r. ⌜ (Settled componentLimit path → take (path .count) r ≡ keys (pathOf path)) ⌝ }
 {
     let n = path.count;
-    let mut keys = [0u64; 32];
+    let mut keys = [0u64; COMPONENTS];
     let mut i = 1;
-    while i < 32 {
+    while i < COMPONENTS {
         if n <= i {
             return keys;
         }
@@ -89,7 +90,7 @@ fn keys_of(path: AmlName) -> [u64; 32]
 
 // A path's keys, the first `count` of them, or what the path is refused with.
 pub struct PathKeys {
-    pub keys: [u64; 32],
+    pub keys: [u64; COMPONENTS],
     pub count: usize,
     pub said: PathSaid,
 }
@@ -119,7 +120,7 @@ fn no_keys(e: AmlError) -> PathKeys
     ensures { λ r. ⌜ r .said ≡ PathSaid.Refused e ⌝ }
 {
     PathKeys {
-        keys: [0; 32],
+        keys: [0; COMPONENTS],
         count: 0,
         said: PathSaid::Refused(e),
     }
@@ -223,24 +224,53 @@ pub fn look_up(table: &[u64], path: &[u64]) -> HandleAnswer
     }
 }
 
+// Where a name would be bound.
+enum Room {
+    // the index of its level's record, and where its word would stand among the bindings
+    At(usize, usize),
+    Refused(AmlError),
+}
+
+// A path's last segment has room where its level is there, has nothing under that segment, and one binding more fits.
+fn find_room(table: &[u64], path: &[u64]) -> Room
+    requires { ⌜ (wellFormed limits (now table) ≡ true) × Keyed componentLimit (now path) ⌝ }
+    ensures { λ r. ⌜ RoomFor limits (now (table .entry)) (now (path .entry)) r ⌝ }
+{
+    let found = table::inner::find_spot(table, path);
+    match found {
+        Spot::Refused(e) => Room::Refused(e),
+        Spot::Bound(_) => Room::Refused(AmlError::NameCollision),
+        Spot::Free(at, i) => {
+            if table[LAST_BINDING] != 0 {
+                return Room::Refused(AmlError::BindingsFull);
+            }
+            Room::At(at, i)
+        }
+    }
+}
+
+// Binds a path's last segment to a handle, where there is room for it.
+fn bind_at(table: &mut [u64], path: &[u64], at: usize, i: usize, handle: u64)
+    requires { ⌜ (wellFormed limits (now table) ≡ true) × Keyed componentLimit (now path) × Spare limits (now table) (now path) at i × (handle < 2 ^ 32) ⌝ }
+    ensures { λ _. ⌜ now (table .exit) ≡ bindWords limits (now (table .entry)) at i (lastOf (now (path .entry)) * 2 ^ 32 + handle) ⌝ }
+{
+    table::inner::bind(table, at, i, path[path.len() - 1] * SEGMENT + handle);
+}
+
 // Adds a value under a new handle, and binds the path's last segment to it.
 pub fn add_value(table: &mut [u64], path: &[u64], value: u64) -> HandleAnswer
     requires { ⌜ (wellFormed limits (now table) ≡ true) × Keyed componentLimit (now path) ⌝ }
     ensures { λ r. ⌜ handleLeft (now (table .exit)) r ≡ left limits (now (table .entry)) (addValue limits (decode limits (now (table .entry))) (now (path .entry)) value) ⌝ }
 {
-    let found = table::inner::find_spot(table, path);
+    let found = find_room(table, path);
     match found {
-        Spot::Refused(e) => HandleAnswer::Refused(e),
-        Spot::Bound(_) => HandleAnswer::Refused(AmlError::NameCollision),
-        Spot::Free(at, i) => {
-            if table[LAST_BINDING] != 0 {
-                return HandleAnswer::Refused(AmlError::BindingsFull);
-            }
+        Room::Refused(e) => HandleAnswer::Refused(e),
+        Room::At(at, i) => {
             let made = table[COUNT_AT];
             if OBJECTS as u64 <= made {
                 return HandleAnswer::Refused(AmlError::ObjectsFull);
             }
-            table::inner::bind(table, at, i, path[path.len() - 1] * SEGMENT + made);
+            bind_at(table, path, at, i, made);
             table[VALUES_AT + made as usize] = value;
             table[COUNT_AT] = made + 1;
             HandleAnswer::Handle(AmlHandle(made as u32))
@@ -257,20 +287,11 @@ pub fn add_alias(table: &mut [u64], path: &[u64], target: &[u64]) -> HandleAnswe
     match aim {
         HandleAnswer::Refused(e) => HandleAnswer::Refused(e),
         HandleAnswer::Handle(handle) => {
-            let found = table::inner::find_spot(table, path);
+            let found = find_room(table, path);
             match found {
-                Spot::Refused(e) => HandleAnswer::Refused(e),
-                Spot::Bound(_) => HandleAnswer::Refused(AmlError::NameCollision),
-                Spot::Free(at, i) => {
-                    if table[LAST_BINDING] != 0 {
-                        return HandleAnswer::Refused(AmlError::BindingsFull);
-                    }
-                    table::inner::bind(
-                        table,
-                        at,
-                        i,
-                        path[path.len() - 1] * SEGMENT + handle.0 as u64,
-                    );
+                Room::Refused(e) => HandleAnswer::Refused(e),
+                Room::At(at, i) => {
+                    bind_at(table, path, at, i, handle.0 as u64);
                     HandleAnswer::Handle(handle)
                 }
             }

@@ -10,7 +10,7 @@ use lib.Seq.{drop-cons}
 use borrow.Author.Tests.{le-leb, lt-leb, leb-true}
 use Rattle.pkg_length.specs.Refusal.{Answer, gives, refuses, andThen}
 use Rattle.pkg_length.proofs.Answers.{halves, never, wrong, refuses-not, gives-same, then-gives}
-use Rattle.name_object.specs.Component.{Component, root, up, seg, segOk, fine, spellOne, spell, componentLimit}
+use Rattle.name_object.specs.Component.{Component, root, up, seg, segOk, fine, spellOne, spell}
 use Rattle.name_object.specs.Memory.{nameOf, zeros, componentOf, pathOk, pathOf}
 use Rattle.name_object.specs.declared.AmlName.{AmlName}
 use Rattle.name_object.proofs.Memory.{read-at}
@@ -195,8 +195,3 @@ unfolding nameOf
 byte-at limit name i k h =
     let e : spell (pathOf name) ++ zeros (4 * (limit - length (pathOf name))) ≡ name .bytes = ap (λ (n : AmlName). n .bytes) (name-whole limit name (k .size) (k .ok)) in
     rw e at (read-at (pathOf name) (zeros (4 * (limit - length (pathOf name)))) i (omega (arith, length-path name)))
-
--- the same within the limit that the layers above hold to
-pub path-byte : (name : AmlName) (i : ℕ) → length (name .bytes) ≡ 4 * componentLimit → pathOk componentLimit name ≡ true → i < name .count →
-    spellOne (getD (pathOf name) i up) ≡ getD (name .bytes) (4 * i) 0 ∷ getD (name .bytes) (4 * i + 1) 0 ∷ getD (name .bytes) (4 * i + 2) 0 ∷ getD (name .bytes) (4 * i + 3) 0 ∷ []
-path-byte name i l ok h = byte-at componentLimit name i (record { size = l; ok = ok }) h

@@ -107,7 +107,7 @@ text-short x (y ∷ cs) =
     let m : ltb 0 (length (y ∷ cs)) ≡ true = lt-ltb 0 (length (y ∷ cs)) (omega arith) in
     omega (arith, ap length (rw m at (text-cons x (y ∷ cs))), length-append (pieceOf true x) (textOf (y ∷ cs)), piece-most true x, text-short y cs)
 
--- the longest text: 159 bytes where a path has at most 32 components
+-- the longest text: a byte less than five for each component
 pub text-bound : (limit : ℕ) (cs : List Component) → length cs ≤ limit → length (textOf cs) ≤ 5 * limit - 1
 text-bound limit [] l = omega (arith, ap length (text-end [] 0 (omega arith)))
 text-bound limit (x ∷ cs) l = omega (arith, text-short x cs)

@@ -6,7 +6,7 @@ pub const BINDINGS: usize = 512;
 
 pub const OBJECTS: usize = 512;
 // components of a name
-pub const COMPONENTS: usize = 32;
+pub const COMPONENTS: usize = name_object::COMPONENTS;
 
 // The levels stand first, then the bindings; then how many objects there are, and their values.
 pub const LAST_LEVEL: usize = LEVELS - 1;

@@ -17,12 +17,12 @@ use Rattle.namespace.proofs.add_level.Tie as tie
 
 array-share-prefix-keys : tie.Need-array-share-prefix-keys
 array-share-prefix-keys c =
-    let len : length (c .before .before .before .before .keyed .result .keys) ≡ 32 = search needs in
+    let len : length (c .before .before .before .before .keyed .result .keys) ≡ componentLimit = search needs in
     omega (arith, c .before .before .before .before .keyed .ensures .given (c .before .before .enum-told .given .1) .1 .short)
 
 slice-aggregate-add-level : tie.Need-slice-aggregate-add-level
 slice-aggregate-add-level c =
-    let len : length (c .before .before .before .before .before .keyed .result .keys) ≡ 32 = search needs in
+    let len : length (c .before .before .before .before .before .keyed .result .keys) ≡ componentLimit = search needs in
     sym (length-take-le (c .before .before .before .before .before .keyed .result .count) (c .before .before .before .before .before .keyed .result .keys) (omega (arith, c .before .before .before .before .before .keyed .ensures .given (c .before .before .before .enum-told .given .1) .1 .short)))
 
 add-level-requires : tie.Need-add-level-requires

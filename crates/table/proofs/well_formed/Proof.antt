@@ -1,6 +1,6 @@
 -- The memory is its three parts in a row.
 use mathlib.Core.Path.{ap, sym, _∙_}
-use Prim.Native.Nat.{_-_}
+use Prim.Native.Nat.{_+_, _-_}
 use lib.ListN.{length, take, drop, length-drop}
 use lib.Seq.{length-take-le, take-all}
 use borrow.Author.Tests.{eq-eqb, ne-eqb}
@@ -13,17 +13,17 @@ use Rattle.table.proofs.well_formed.Statement.{statement}
 use Rattle.table.proofs.well_formed.Tie as tie
 
 slice-aggregate-parts-fit : tie.Need-slice-aggregate-parts-fit
-slice-aggregate-parts-fit c = sym (length-take-le 128 (c .before .before .before .args .table .now) (omega arith))
+slice-aggregate-parts-fit c = sym (length-take-le (limits .levels) (c .before .before .before .args .table .now) (omega arith))
 
 parts-fit-requires : tie.Need-parts-fit-requires
 parts-fit-requires c κs =
     let a = c .before .before .before .before .before .args in
-    (length-take-le 128 (a .table .now) (omega arith), omega (arith, length-drop 640 (a .table .now)))
+    (length-take-le (limits .levels) (a .table .now) (omega arith), omega (arith, length-drop (limits .levels + limits .bindings) (a .table .now)))
 
 returns : tie.Need-returns
 returns c =
     let ws = c .before .before .before .before .before .before .args .table .now in
-    c .parts-fit .ensures ∙ sym (formed-test limits (omega arith) ws ∙ rw (eq-eqb _ _ (c .before .before .before .before .if1 .taken)) (ap (partsOk limits (take 128 ws) (take 512 (drop 128 ws))) (sym (take-all (length ws - 640) (drop 640 ws) (omega (arith, length-drop 640 ws))))))
+    c .parts-fit .ensures ∙ sym (formed-test limits (omega arith) ws ∙ rw (eq-eqb _ _ (c .before .before .before .before .if1 .taken)) (ap (partsOk limits (take (limits .levels) ws) (take (limits .bindings) (drop (limits .levels) ws))) (sym (take-all (length ws - 640) (drop 640 ws) (omega (arith, length-drop (limits .levels + limits .bindings) ws))))))
 
 returns-2 : tie.Need-returns-2
 returns-2 c =

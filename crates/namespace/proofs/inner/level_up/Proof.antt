@@ -27,20 +27,20 @@ slice-aggregate-nearest-level c =
 array-share-prefix-keys : tie.Need-array-share-prefix-keys
 array-share-prefix-keys c =
     let n = settled-count componentLimit (c .before .before .before .before .args .scope) (c .before .before .before .before .pre .2) in
-    let len : length (c .before .before .keys-of .result) ≡ 32 = search needs in
+    let len : length (c .before .before .keys-of .result) ≡ componentLimit = search needs in
     omega arith
 
 slice-aggregate-nearest-level-2 : tie.Need-slice-aggregate-nearest-level-2
 slice-aggregate-nearest-level-2 c =
     let n = settled-count componentLimit (c .before .before .before .before .before .args .scope) (c .before .before .before .before .before .pre .2) in
-    let len : length (c .before .before .before .keys-of .result) ≡ 32 = search needs in
+    let len : length (c .before .before .before .keys-of .result) ≡ componentLimit = search needs in
     sym (length-take-le (c .before .before .before .before .before .args .scope .count) (c .before .before .before .keys-of .result) (omega arith))
 
 nearest-level-requires : tie.Need-nearest-level-requires
 nearest-level-requires c κs =
     let c5 = c .before .before .before .before .before in
     let keys = c .before .before .before .keys-of .result in
-    let len : length keys ≡ 32 = search needs in
+    let len : length keys ≡ componentLimit = search needs in
     (omega (arith, length-ls limits (omega arith) (c5 .args .table .now) (c5 .pre .0)), omega (arith, length-take (c5 .args .scope .count) keys))
 
 returns : tie.Need-returns
@@ -50,7 +50,7 @@ returns c =
     let c8 = c6 .before .before in
     let ws = c8 .args .table .now in
     c .no-level .ensures ∙ ap (told componentLimit) (sym (level-none ws (c8 .pre .0) (c8 .args .scope) (c8 .pre .2) (firstOf (pathOf (c8 .args .path))) (c .before .before .nearest-level .result)
-    (c .before .before .nearest-level .ensures ∙ ap₂ (λ (k : ℕ) (p : List ℕ). depthOf (deepest (levelHeld (take 128 ws) p k) (length p))) (c5 .bare-key .ensures) (c6 .keys-of .ensures (c8 .pre .2))) (c .before .if1 .taken)))
+    (c .before .before .nearest-level .ensures ∙ ap₂ (λ (k : ℕ) (p : List ℕ). depthOf (deepest (levelHeld (take (limits .levels) ws) p k) (length p))) (c5 .bare-key .ensures) (c6 .keys-of .ensures (c8 .pre .2))) (c .before .if1 .taken)))
 
 full-name-requires : tie.Need-full-name-requires
 full-name-requires c κs =
@@ -58,7 +58,7 @@ full-name-requires c κs =
     let c5 = c4 .before in
     let c7 = c5 .before .before in
     let ws = c7 .args .table .now in
-    let h1 = c .before .nearest-level .ensures ∙ ap₂ (λ (k : ℕ) (p : List ℕ). depthOf (deepest (levelHeld (take 128 ws) p k) (length p))) (c4 .bare-key .ensures) (c5 .keys-of .ensures (c7 .pre .2)) in (
+    let h1 = c .before .nearest-level .ensures ∙ ap₂ (λ (k : ℕ) (p : List ℕ). depthOf (deepest (levelHeld (take (limits .levels) ws) p k) (length p))) (c4 .bare-key .ensures) (c5 .keys-of .ensures (c7 .pre .2)) in (
       c7 .pre .2,
       c7 .pre .1,
       level-range ws (c7 .pre .0) (c7 .args .scope) (c7 .pre .2) (firstOf (pathOf (c7 .args .path))) (c .before .nearest-level .result) h1 (c .if1 .left) .0,
@@ -73,7 +73,7 @@ sub-t16 c =
     let c8 = c6 .before .before in
     let ws = c8 .args .table .now in
     level-range ws (c8 .pre .0) (c8 .args .scope) (c8 .pre .2) (firstOf (pathOf (c8 .args .path))) (c .before .before .nearest-level .result)
-    (c .before .before .nearest-level .ensures ∙ ap₂ (λ (k : ℕ) (p : List ℕ). depthOf (deepest (levelHeld (take 128 ws) p k) (length p))) (c5 .bare-key .ensures) (c6 .keys-of .ensures (c8 .pre .2))) (c .before .if1 .left) .0
+    (c .before .before .nearest-level .ensures ∙ ap₂ (λ (k : ℕ) (p : List ℕ). depthOf (deepest (levelHeld (take (limits .levels) ws) p k) (length p))) (c5 .bare-key .ensures) (c6 .keys-of .ensures (c8 .pre .2))) (c .before .if1 .left) .0
 
 add-t17 : tie.Need-add-t17
 add-t17 c =
@@ -86,7 +86,7 @@ returns-2 c =
     let c8 = c6 .before .before in
     let ws = c8 .args .table .now in
     level-found ws (c8 .pre .0) (c8 .args .scope) (c8 .pre .2) (firstOf (pathOf (c8 .args .path))) (c .before .before .nearest-level .result)
-    (c .before .before .nearest-level .ensures ∙ ap₂ (λ (k : ℕ) (p : List ℕ). depthOf (deepest (levelHeld (take 128 ws) p k) (length p))) (c5 .bare-key .ensures) (c6 .keys-of .ensures (c8 .pre .2))) (c .before .if1 .left) (c .full-name .result) (c .full-name .ensures)
+    (c .before .before .nearest-level .ensures ∙ ap₂ (λ (k : ℕ) (p : List ℕ). depthOf (deepest (levelHeld (take (limits .levels) ws) p k) (length p))) (c5 .bare-key .ensures) (c6 .keys-of .ensures (c8 .pre .2))) (c .before .if1 .left) (c .full-name .result) (c .full-name .ensures)
 
 pub level-up-spec : {M : Type 1} → statement M
 level-up-spec =

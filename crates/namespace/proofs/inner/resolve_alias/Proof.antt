@@ -2,6 +2,7 @@
 use mathlib.Core.Path.{_≡_, ap, sym, _∙_}
 use lib.ListN.{length}
 use lib.Seq.{length-take-le}
+use Rattle.name_object.specs.Component.{componentLimit}
 use Rattle.name_object.specs.Memory.{pathOf}
 use Rattle.table.specs.Limits.{limits}
 use Rattle.table.specs.Memory.{decode, left}
@@ -17,24 +18,24 @@ keys-against-requires-2 c κs = (c .before .before .before .before .pre .3, c .b
 
 array-share-prefix-names : tie.Need-array-share-prefix-names
 array-share-prefix-names c =
-    let len : length (c .before .before .before .before .before .before .before .before .keys-against .result .keys) ≡ 32 = search needs in
+    let len : length (c .before .before .before .before .before .before .before .before .keys-against .result .keys) ≡ componentLimit = search needs in
     omega (arith, c .before .before .before .before .before .before .before .before .keys-against .ensures .given (c .before .before .before .before .before .before .enum-told .given .1) .short)
 
 slice-aggregate-add-alias : tie.Need-slice-aggregate-add-alias
 slice-aggregate-add-alias c =
     let r = c .before .before .before .before .before .before .before .before .before .keys-against .result in
-    let len : length (r .keys) ≡ 32 = search needs in
+    let len : length (r .keys) ≡ componentLimit = search needs in
     sym (length-take-le (r .count) (r .keys) (omega (arith, c .before .before .before .before .before .before .before .before .before .keys-against .ensures .given (c .before .before .before .before .before .before .before .enum-told .given .1) .short)))
 
 array-share-prefix-aims : tie.Need-array-share-prefix-aims
 array-share-prefix-aims c =
-    let len : length (c .before .before .before .before .before .before .keys-against2 .result .keys) ≡ 32 = search needs in
+    let len : length (c .before .before .before .before .before .before .keys-against2 .result .keys) ≡ componentLimit = search needs in
     omega (arith, c .before .before .before .before .before .before .keys-against2 .ensures .given (c .before .before .before .before .enum-told2 .given .1) .short)
 
 slice-aggregate-add-alias-2 : tie.Need-slice-aggregate-add-alias-2
 slice-aggregate-add-alias-2 c =
     let r = c .before .before .before .before .before .before .before .keys-against2 .result in
-    let len : length (r .keys) ≡ 32 = search needs in
+    let len : length (r .keys) ≡ componentLimit = search needs in
     sym (length-take-le (r .count) (r .keys) (omega (arith, c .before .before .before .before .before .before .before .keys-against2 .ensures .given (c .before .before .before .before .before .enum-told2 .given .1) .short)))
 
 add-alias-requires : tie.Need-add-alias-requires

@@ -1,5 +1,6 @@
 -- A bare segment is searched; any other path is returned.
 use mathlib.Core.Path.{_≡_, refl, ap, sym, _∙_}
+use Prim.Native.Nat.{_*_}
 use lib.ListN.{length}
 use Rattle.name_object.specs.Component.{componentLimit}
 use Rattle.name_object.specs.Memory.{told}
@@ -24,7 +25,7 @@ returns-2 : tie.Need-returns-2
 returns-2 c =
     let c3 = c .before .before .before in
     let c5 = c3 .before .before in
-    let len : length (c5 .args .level-name .bytes) ≡ 128 = search needs in
+    let len : length (c5 .args .level-name .bytes) ≡ 4 * componentLimit = search needs in
     same-told (sym (name-whole componentLimit (c5 .args .level-name) len (c5 .pre .1))) refl
     ∙ ap (told componentLimit) (level-same limits (c5 .args .table .now) (c5 .args .level-name) (c5 .args .starting-scope) (c5 .pre .0) (c5 .pre .1) (sym (c3 .is-bare .ensures) ∙ c .before .before .if1 .left) (sym (c .before .is-path .ensures) ∙ c .if2 .taken))
 

@@ -1,5 +1,6 @@
 -- Resolved, and looked up there only.
 use mathlib.Core.Path.{_≡_, refl, ap, sym, _∙_}
+use Prim.Native.Nat.{_*_}
 use lib.ListN.{length}
 use lib.Seq.{length-take-le}
 use Rattle.name_object.specs.Component.{componentLimit}
@@ -28,7 +29,7 @@ array-share-prefix-keys c =
     (c .before .before .before .before .before .before .before .pre .1) (c .before .before .before .before .before .before .before .pre .2 .path)) (c .before .before .before .before .before .resolved .result)
     (c .before .before .before .before .before .resolved .ensures) (c .before .before .before .before .keys-in .result) (c .before .before .before .before .keys-in .ensures)
     _ refl in
-    let len : length (c .before .before .before .before .keys-in .result .keys) ≡ 32 = search needs in
+    let len : length (c .before .before .before .before .keys-in .result .keys) ≡ componentLimit = search needs in
     omega (arith, g .given (c .before .before .enum-told .given .1) .short)
 
 slice-aggregate-look-up : tie.Need-slice-aggregate-look-up
@@ -39,7 +40,7 @@ slice-aggregate-look-up c =
     (c .before .before .before .before .before .before .before .before .args .scope) (c .before .before .before .before .before .before .before .before .pre .1)
     (c .before .before .before .before .before .before .before .before .pre .2 .path)) (c .before .before .before .before .before .before .resolved .result) (c .before .before .before .before .before .before .resolved .ensures)
     (c .before .before .before .before .before .keys-in .result) (c .before .before .before .before .before .keys-in .ensures) _ refl in
-    let len : length (c .before .before .before .before .before .keys-in .result .keys) ≡ 32 = search needs in
+    let len : length (c .before .before .before .before .before .keys-in .result .keys) ≡ componentLimit = search needs in
     sym (length-take-le (c .before .before .before .before .before .keys-in .result .count) (c .before .before .before .before .before .keys-in .result .keys) (omega (arith, g .given (c .before .before .before .enum-told .given .1) .short)))
 
 look-up-requires : tie.Need-look-up-requires
@@ -94,7 +95,7 @@ returns-2 c =
 
 returns-3 : tie.Need-returns-3
 returns-3 c =
-    let len : length (c .before .before .before .before .before .before .before .before .before .before .resolved .result .name .bytes) ≡ 128 = search needs in
+    let len : length (c .before .before .before .before .before .before .before .before .before .before .resolved .result .name .bytes) ≡ 4 * componentLimit = search needs in
     let a = c .before .before .before .before .before .before .before .before .before .before .before .before .args in
     let x = found-done componentLimit (resolved componentLimit
     (pathOf (c .before .before .before .before .before .before .before .before .before .before .before .before .args .path))

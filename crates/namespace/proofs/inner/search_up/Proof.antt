@@ -33,13 +33,13 @@ part-nearest-value-end c =
 array-share-prefix-keys : tie.Need-array-share-prefix-keys
 array-share-prefix-keys c =
     let n = settled-count componentLimit (c .before .before .before .before .before .args .scope) (c .before .before .before .before .before .pre .2) in
-    let len : length (c .before .before .before .keys-of .result) ≡ 32 = search needs in
+    let len : length (c .before .before .before .keys-of .result) ≡ componentLimit = search needs in
     omega arith
 
 slice-aggregate-nearest-value-2 : tie.Need-slice-aggregate-nearest-value-2
 slice-aggregate-nearest-value-2 c =
     let n = settled-count componentLimit (c .before .before .before .before .before .before .args .scope) (c .before .before .before .before .before .before .pre .2) in
-    let len : length (c .before .before .before .before .keys-of .result) ≡ 32 = search needs in
+    let len : length (c .before .before .before .before .keys-of .result) ≡ componentLimit = search needs in
     sym (length-take-le (c .before .before .before .before .before .before .args .scope .count) (c .before .before .before .before .keys-of .result) (omega arith))
 
 nearest-value-requires : tie.Need-nearest-value-requires
@@ -47,7 +47,7 @@ nearest-value-requires c κs =
     let c6 = c .before .before .before .before .before .before in
     let ws = c6 .args .table .now in
     let keys = c .before .before .before .before .keys-of .result in
-    let len : length keys ≡ 32 = search needs in
+    let len : length keys ≡ componentLimit = search needs in
     (omega (arith, length-ls limits (omega arith) ws (c6 .pre .0)), omega (arith, length-take (c6 .args .scope .count) keys), bindings-held limits (omega arith) ws (c6 .pre .0))
 
 returns : tie.Need-returns
@@ -57,7 +57,7 @@ returns c =
     let c9 = c7 .before .before in
     let ws = c9 .args .table .now in
     c .not-found .ensures ∙ ap (told componentLimit) (sym (up-none ws (c9 .pre .0) (c9 .args .scope) (c9 .pre .2) (firstOf (pathOf (c9 .args .path))) (c .before .before .nearest-value .result)
-    (c .before .before .nearest-value .ensures ∙ ap₂ (λ (k : ℕ) (p : List ℕ). nearestOf (deepest (valueHeld (take 128 ws) (take 512 (drop 128 ws)) p k) (length p))) (c6 .bare-key .ensures) (c7 .keys-of .ensures (c9 .pre .2))) (c .before .if1 .taken)))
+    (c .before .before .nearest-value .ensures ∙ ap₂ (λ (k : ℕ) (p : List ℕ). nearestOf (deepest (valueHeld (take (limits .levels) ws) (take (limits .bindings) (drop (limits .levels) ws)) p k) (length p))) (c6 .bare-key .ensures) (c7 .keys-of .ensures (c9 .pre .2))) (c .before .if1 .taken)))
 
 full-name-requires : tie.Need-full-name-requires
 full-name-requires c κs =
@@ -65,7 +65,7 @@ full-name-requires c κs =
     let c6 = c5 .before in
     let c8 = c6 .before .before in
     let ws = c8 .args .table .now in
-    let h1 = c .before .nearest-value .ensures ∙ ap₂ (λ (k : ℕ) (p : List ℕ). nearestOf (deepest (valueHeld (take 128 ws) (take 512 (drop 128 ws)) p k) (length p))) (c5 .bare-key .ensures) (c6 .keys-of .ensures (c8 .pre .2)) in (
+    let h1 = c .before .nearest-value .ensures ∙ ap₂ (λ (k : ℕ) (p : List ℕ). nearestOf (deepest (valueHeld (take (limits .levels) ws) (take (limits .bindings) (drop (limits .levels) ws)) p k) (length p))) (c5 .bare-key .ensures) (c6 .keys-of .ensures (c8 .pre .2)) in (
       c8 .pre .2,
       c8 .pre .1,
       up-range ws (c8 .pre .0) (c8 .args .scope) (c8 .pre .2) (firstOf (pathOf (c8 .args .path))) (c .before .nearest-value .result) h1 (c .if1 .left) .0,
@@ -83,7 +83,7 @@ cast-t21 c =
     omega (
       arith,
       up-range ws (c10 .pre .0) (c10 .args .scope) (c10 .pre .2) (firstOf (pathOf (c10 .args .path))) (c3 .nearest-value .result)
-          (c3 .nearest-value .ensures ∙ ap₂ (λ (k : ℕ) (p : List ℕ). nearestOf (deepest (valueHeld (take 128 ws) (take 512 (drop 128 ws)) p k) (length p))) (c7 .bare-key .ensures) (c8 .keys-of .ensures (c10 .pre .2))) (c .before .before .if1 .left) .2,
+          (c3 .nearest-value .ensures ∙ ap₂ (λ (k : ℕ) (p : List ℕ). nearestOf (deepest (valueHeld (take (limits .levels) ws) (take (limits .bindings) (drop (limits .levels) ws)) p k) (length p))) (c7 .bare-key .ensures) (c8 .keys-of .ensures (c10 .pre .2))) (c .before .before .if1 .left) .2,
     )
 
 sub-t13 : tie.Need-sub-t13
@@ -94,7 +94,7 @@ sub-t13 c =
     let c10 = c8 .before .before in
     let ws = c10 .args .table .now in
     up-range ws (c10 .pre .0) (c10 .args .scope) (c10 .pre .2) (firstOf (pathOf (c10 .args .path))) (c3 .nearest-value .result)
-    (c3 .nearest-value .ensures ∙ ap₂ (λ (k : ℕ) (p : List ℕ). nearestOf (deepest (valueHeld (take 128 ws) (take 512 (drop 128 ws)) p k) (length p))) (c7 .bare-key .ensures) (c8 .keys-of .ensures (c10 .pre .2))) (c .before .before .if1 .left) .0
+    (c3 .nearest-value .ensures ∙ ap₂ (λ (k : ℕ) (p : List ℕ). nearestOf (deepest (valueHeld (take (limits .levels) ws) (take (limits .bindings) (drop (limits .levels) ws)) p k) (length p))) (c7 .bare-key .ensures) (c8 .keys-of .ensures (c10 .pre .2))) (c .before .before .if1 .left) .0
 
 add-t23 : tie.Need-add-t23
 add-t23 c =
@@ -108,7 +108,7 @@ returns-2 c =
     let c10 = c8 .before .before in
     let ws = c10 .args .table .now in
     up-found ws (c10 .pre .0) (c10 .args .scope) (c10 .pre .2) (firstOf (pathOf (c10 .args .path))) (c3 .nearest-value .result)
-    (c3 .nearest-value .ensures ∙ ap₂ (λ (k : ℕ) (p : List ℕ). nearestOf (deepest (valueHeld (take 128 ws) (take 512 (drop 128 ws)) p k) (length p))) (c7 .bare-key .ensures) (c8 .keys-of .ensures (c10 .pre .2))) (c .before .before .if1 .left)
+    (c3 .nearest-value .ensures ∙ ap₂ (λ (k : ℕ) (p : List ℕ). nearestOf (deepest (valueHeld (take (limits .levels) ws) (take (limits .bindings) (drop (limits .levels) ws)) p k) (length p))) (c7 .bare-key .ensures) (c8 .keys-of .ensures (c10 .pre .2))) (c .before .before .if1 .left)
     (c .before .full-name .result) (c .before .full-name .ensures)
 
 pub search-up-spec : {M : Type 1} → statement M

@@ -1,6 +1,6 @@
 -- What stands is the path cut to its count.
 use mathlib.Core.Path.{_≡_, ap, sym, _∙_}
-use Prim.Native.Nat.{ℕ, _-_, _≤_}
+use Prim.Native.Nat.{ℕ, _-_, _*_, _≤_}
 use lib.ListN.{length, take}
 use Rattle.name_object.specs.Component.{componentLimit}
 use Rattle.name_object.specs.Memory.{nameOf, pathOf}
@@ -22,8 +22,8 @@ abbrev μ-loop : tie.MeasureT-loop
 
 loop-holds : tie.Need-loop-holds Inv-loop μ-loop
 loop-holds c =
-    let len : length (c .args .name .bytes) ≡ 128 = search needs in
-    (c .pre .1, omega arith, cut-start (c .args .name) len (c .pre .0))
+    let len : length (c .args .name .bytes) ≡ 4 * componentLimit = search needs in
+    (c .pre .1, omega arith, cut-start componentLimit (c .args .name) len (c .pre .0))
 
 pop-requires : tie.Need-pop-requires Inv-loop μ-loop
 pop-requires c κs =
@@ -41,7 +41,7 @@ loop-again c =
     let k = settled-kept componentLimit (c .before .before .before .before .args .name) (c .before .before .before .before .pre .0) .room in (
       omega (arith, c .before .if1 .taken),
       omega arith,
-      c .pop .ensures ∙ cut-turn cs (l .cut .count) (l .cut) (omega (arith, c .before .if1 .taken)) (omega (arith, length-path (c .before .before .before .before .args .name), l .inv .1)) k (l .inv .2)
+      c .pop .ensures ∙ cut-turn componentLimit cs (l .cut .count) (l .cut) (omega (arith, c .before .if1 .taken)) (omega (arith, length-path (c .before .before .before .before .args .name), l .inv .1)) k (l .inv .2)
           ∙ ap (λ (i : ℕ). nameOf componentLimit (take i cs)) (sym n),
     )
 

@@ -16,13 +16,13 @@ use Rattle.namespace.proofs.listing.start.Tie as tie
 array-share-prefix-keys : tie.Need-array-share-prefix-keys
 array-share-prefix-keys c =
     let c3 = c .before .before .before in
-    let len : length (c3 .keyed .result .keys) ≡ 32 = search needs in
+    let len : length (c3 .keyed .result .keys) ≡ componentLimit = search needs in
     omega (arith, c3 .keyed .ensures .given (c .before .enum-told .given .1) .1 .short)
 
 slice-aggregate-below : tie.Need-slice-aggregate-below
 slice-aggregate-below c =
     let c4 = c .before .before .before .before in
-    let len : length (c4 .keyed .result .keys) ≡ 32 = search needs in
+    let len : length (c4 .keyed .result .keys) ≡ componentLimit = search needs in
     sym (length-take-le (c4 .keyed .result .count) (c4 .keyed .result .keys) (omega (arith, c4 .keyed .ensures .given (c .before .before .enum-told .given .1) .1 .short)))
 
 below-requires : tie.Need-below-requires

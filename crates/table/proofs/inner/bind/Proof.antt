@@ -18,8 +18,8 @@ make-room-requires c κs =
     let ws = c .before .before .before .args .table .now in
     omega (
       arith,
-      length-take 512 (drop 128 (set ws (c .before .before .before .args .at) (getD ws (c .before .before .before .args .at) 0 + 4294967296))),
-      length-drop 128 (set ws (c .before .before .before .args .at) (getD ws (c .before .before .before .args .at) 0 + 4294967296)),
+      length-take (limits .bindings) (drop (limits .levels) (set ws (c .before .before .before .args .at) (getD ws (c .before .before .before .args .at) 0 + 4294967296))),
+      length-drop (limits .levels) (set ws (c .before .before .before .args .at) (getD ws (c .before .before .before .args .at) 0 + 4294967296)),
       length-set ws (c .before .before .before .args .at) (getD ws (c .before .before .before .args .at) 0 + 4294967296),
     )
 

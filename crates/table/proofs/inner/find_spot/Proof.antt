@@ -14,7 +14,7 @@ use Rattle.table.proofs.inner.find_spot.Tie as tie
 returns : tie.Need-returns
 returns c =
     let ws = c .before .before .before .args .table .now in
-    spot-root (take 128 ws) (take 512 (drop 128 ws)) (c .before .before .before .args .path .now) (c .if1 .taken)
+    spot-root (take (limits .levels) ws) (take (limits .bindings) (drop (limits .levels) ws)) (c .before .before .before .args .path .now) (c .if1 .taken)
 
 slice-aggregate-find-spot-in : tie.Need-slice-aggregate-find-spot-in
 slice-aggregate-find-spot-in c =

@@ -1,6 +1,6 @@
 -- What is left of the pass decides as the whole pass does.
 use mathlib.Core.Path.{_≡_, refl, sym, _∙_}
-use Prim.Native.Nat.{_-_, _≤_}
+use Prim.Native.Nat.{_+_, _-_, _≤_}
 use lib.ListN.{length, drop, getD, length-set}
 use Rattle.name_object.specs.Component.{componentLimit}
 use Rattle.table.specs.Inside.{scan, lowest, below}
@@ -16,7 +16,7 @@ use Rattle.table.proofs.inner.record_fits.Reads as record-fits-reads
 
 abbrev Inv-loop : tie.InvT-loop
 Inv-loop levels bindings made low₀ p₀ m₀ k₀ low p m k =
-    (length low ≡ 34) × (p ≤ 32) × (k ≤ length levels) × (m ≤ length bindings)
+    (length low ≡ componentLimit + 2) × (p ≤ componentLimit) × (k ≤ length levels) × (m ≤ length bindings)
     × (scan componentLimit (below made) p low (drop k levels) (drop m bindings) ≡ scan componentLimit (below made) 0 (lowest componentLimit) levels bindings)
 
 abbrev μ-loop : tie.MeasureT-loop

@@ -3,6 +3,7 @@ use mathlib.Core.Path.{_≡_, refl, subst}
 use mathlib.Core.List.{List}
 use Prim.Native.Nat.{ℕ, _+_, _-_, _<_}
 use lib.ListN.{length, getD, length-set}
+use Rattle.name_object.specs.Component.{componentLimit}
 use Rattle.table.specs.Inside.{Reached}
 use Rattle.table.proofs.Passes.{counts-low}
 use Rattle.table.proofs.Child.{Cursor, cursor-start, cursor-low, found-inside, found-from, cursor-turn, cursor-reached, trail-gone, trail-more}
@@ -13,7 +14,7 @@ use Rattle.table.proofs.inner.trail.Tie as tie
 
 abbrev Inv-loop : tie.InvT-loop
 Inv-loop levels scope ats₀ froms₀ m₀ k₀ j₀ ats froms m k j =
-    Cursor levels scope j (k - 1) k m × ((i : ℕ) → i < j → Reached levels scope (i + 1) (getD ats i 0) (getD froms i 0)) × (length ats ≡ 32) × (length froms ≡ 32)
+    Cursor levels scope j (k - 1) k m × ((i : ℕ) → i < j → Reached levels scope (i + 1) (getD ats i 0) (getD froms i 0)) × (length ats ≡ componentLimit) × (length froms ≡ componentLimit)
 
 abbrev μ-loop : tie.MeasureT-loop
 μ-loop levels scope ats₀ froms₀ m₀ k₀ j₀ ats froms m k j = length scope - j
