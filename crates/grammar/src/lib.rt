@@ -1,4 +1,6 @@
 // Control blocks (statement.rs): their grammar, and the check of a block.
+#![tactic(auto)]
+
 ghost use Rattle.grammar.specs.Promise.{Checked};
 
 use pkg_length::AmlError;
@@ -7,7 +9,7 @@ pub mod opcode;
 mod read;
 mod term;
 
-#[derive(Drop)]
+#[derive(Clone, Copy)]
 pub enum CheckAnswer {
     Accepted,
     Refused(AmlError),

@@ -76,7 +76,7 @@ pub const LOCAL0_OP: u8 = 0x60;
 pub const ARG6_OP: u8 = 0x6e;
 
 // Statements of one byte.
-#[derive(Drop)]
+#[derive(Clone, Copy)]
 pub enum Plain {
     Break,
     Continue,
@@ -85,13 +85,13 @@ pub enum Plain {
 }
 
 // Operators by shape: a new one is a row of `term_op`, and of the function that works it out.
-#[derive(Drop)]
+#[derive(Clone, Copy)]
 pub enum StepOp {
     Increment,
     Decrement,
 }
 
-#[derive(Drop)]
+#[derive(Clone, Copy)]
 pub enum OneOp {
     Store,
     Not,
@@ -100,7 +100,7 @@ pub enum OneOp {
     LNot,
 }
 
-#[derive(Drop)]
+#[derive(Clone, Copy)]
 pub enum TwoOp {
     Add,
     Subtract,
@@ -115,7 +115,7 @@ pub enum TwoOp {
 }
 
 // Where an operator's result may be written: nowhere, to a cell, or to a target, which is a cell or 00.
-#[derive(Drop)]
+#[derive(Clone, Copy)]
 pub enum Dest {
     Nowhere,
     ToCell,
@@ -123,7 +123,7 @@ pub enum Dest {
 }
 
 // What a byte starts as a term, by shape: a number, a number of so many bytes, a cell, a step of a cell, an operator of one or of two operands.
-#[derive(Drop)]
+#[derive(Clone, Copy)]
 pub enum TermOp {
     Constant(u64),
     Bytes(usize),
@@ -134,7 +134,7 @@ pub enum TermOp {
     BadTerm,
 }
 
-#[derive(Drop)]
+#[derive(Clone, Copy)]
 pub enum StmtOp {
     Simple(Plain),
     Return,

@@ -12,7 +12,7 @@ use crate::term::{
 use pkg_length::PkgAnswer;
 
 // A package's raw length, if reading goes on, and how many bytes spell it.
-#[derive(Drop)]
+#[derive(Clone, Copy)]
 pub struct Package(pub Reach, pub usize);
 
 // A package length, by the layer below: the place that it gives counts from `at`. A package holds its own length's bytes.

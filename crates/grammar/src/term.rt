@@ -10,7 +10,7 @@ use crate::opcode::{Dest, TermOp};
 use pkg_length::AmlError;
 
 // What is said, and a place: NEXT, and where reading goes on; or a refusal, and its place. Two numbers, since an enum here makes the check twice as slow.
-#[derive(Drop)]
+#[derive(Clone, Copy)]
 pub struct Reach(pub usize, pub usize);
 
 pub const NEXT: usize = 0;

@@ -1,4 +1,6 @@
 // A whole table (request R-1): a header of 36 bytes, then the body. Any bytes are read; a table is written into lent memory.
+#![tactic(auto)]
+
 ghost use Rattle.std.specs.Prelude.{◌≡◌, ◌≤◌, length};
 ghost use Rattle.pkg_length.specs.Wrote.{wrote};
 ghost use Rattle.header.specs.Header.{header_length, signature_in, header_of, header_in, body_of, written_of, written, header_said, write_said};
@@ -9,14 +11,14 @@ use pkg_length::AmlError;
 mod bytes;
 mod fill;
 
-#[derive(Drop)]
+#[derive(Clone, Copy)]
 pub enum Signature {
     Dsdt,
     Ssdt,
 }
 
 // What a header says, and where the body stands in the table: from `start` up to `end`.
-#[derive(Drop)]
+#[derive(Clone, Copy)]
 pub struct Header {
     pub signature: Signature,
     pub revision: u8,
@@ -24,20 +26,20 @@ pub struct Header {
     pub end: usize,
 }
 
-#[derive(Drop)]
+#[derive(Clone, Copy)]
 pub enum HeaderAnswer {
     Read(Header),
     Refused(AmlError),
 }
 
 // The bytes written.
-#[derive(Drop)]
+#[derive(Clone, Copy)]
 pub enum WriteAnswer {
     Length(usize),
     Refused(AmlError),
 }
 
-#[derive(Drop)]
+#[derive(Clone, Copy)]
 enum SignatureAnswer {
     Is(Signature),
     Refused(AmlError),

@@ -1,4 +1,6 @@
 // A namespace saved and read back (request R-6): an image of bit-packed fields, most significant bit first.
+#![tactic(auto)]
+
 ghost use Rattle.std.specs.Prelude.{◌≡◌, length};
 ghost use Rattle.pkg_length.specs.Wrote.{wrote};
 ghost use Rattle.table.specs.Limits.{limits};
@@ -17,21 +19,21 @@ mod segments;
 mod test;
 
 // The bytes written.
-#[derive(Drop)]
+#[derive(Clone, Copy)]
 pub enum WriteAnswer {
     Length(usize),
     Refused(AmlError),
 }
 
 // What an image holds, the levels counted without the root.
-#[derive(Drop)]
+#[derive(Clone, Copy)]
 pub struct Counts {
     pub levels: usize,
     pub bindings: usize,
     pub objects: usize,
 }
 
-#[derive(Drop)]
+#[derive(Clone, Copy)]
 pub enum ReadAnswer {
     Read(Counts),
     Refused(AmlError),

@@ -14,33 +14,33 @@ use crate::layout::{
 use crate::{Counts, bits, segments};
 use pkg_length::AmlError;
 
-#[derive(Drop)]
+#[derive(Clone, Copy)]
 pub(crate) enum Tested {
     Fine,
     Refused(AmlError),
 }
 
 // A level's depth and segment.
-#[derive(Drop)]
+#[derive(Clone, Copy)]
 pub(crate) struct Seen {
     pub depth: usize,
     pub segment: u64,
 }
 
-#[derive(Drop)]
+#[derive(Clone, Copy)]
 pub(crate) enum LevelTested {
     Fine(Seen),
     Refused(AmlError),
 }
 
 // A segment, or a count.
-#[derive(Drop)]
+#[derive(Clone, Copy)]
 pub(crate) enum NumberTested {
     Fine(u64),
     Refused(AmlError),
 }
 
-#[derive(Drop)]
+#[derive(Clone, Copy)]
 pub(crate) enum HeaderTested {
     Fine(Counts),
     Refused(AmlError),

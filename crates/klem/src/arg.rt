@@ -6,7 +6,7 @@ use name_object::AmlName;
 
 // What a line gives its command: paths, numbers, where its last hex stands and the two before it, and where the words start that are not read yet; `open`
 // where the command reads those itself. A fault is a form, with the number and the place of a refusal.
-#[derive(Drop)]
+#[derive(Clone, Copy)]
 pub struct Args {
     pub first: AmlName,
     pub second: AmlName,

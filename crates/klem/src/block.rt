@@ -30,7 +30,7 @@ pub fn run(
 }
 
 // The frame that the cells give; not good where a word is no cell.
-#[derive(Drop)]
+#[derive(Clone, Copy)]
 struct Given {
     frame: Frame,
     good: bool,

@@ -1,4 +1,6 @@
 // klem: answers a script from standard input, a line for a line.
+#![tactic(auto)]
+
 mod answer;
 mod arg;
 mod basic;
@@ -21,7 +23,7 @@ use words::Hex;
 
 // Where the script stands: the buffer's bytes that were read and those of a line that has no end yet, whether that line is too long already, how many
 // lines came before and how many of them were not understood, the bytes of answers to write, and whether writing failed or the script has ended.
-#[derive(Drop)]
+#[derive(Clone, Copy)]
 struct At {
     read: usize,
     held: usize,

@@ -3,7 +3,7 @@ use crate::rows;
 use name_object::AmlName;
 use pkg_length::AmlError;
 
-#[derive(Drop)]
+#[derive(Clone, Copy)]
 pub struct Said {
     pub form: usize,
     pub name: AmlName,

@@ -20,7 +20,7 @@ pub fn behind(line: &[u8], at: usize) -> &[u8] {
 }
 
 // A word's place in its line; empty where there is no word.
-#[derive(Drop)]
+#[derive(Clone, Copy)]
 pub struct Span {
     pub from: usize,
     pub to: usize,
@@ -87,7 +87,7 @@ pub fn find(word: &[u8], b: u8) -> usize {
     i
 }
 
-#[derive(Drop)]
+#[derive(Clone, Copy)]
 pub enum Number {
     Is(u64),
     Bad,
@@ -172,7 +172,7 @@ fn digit(b: u8) -> u8
 }
 
 // How many bytes stand in the buffer.
-#[derive(Drop)]
+#[derive(Clone, Copy)]
 pub enum Hex {
     Bytes(usize),
     Bad,

@@ -10,14 +10,14 @@ use statement::frame::Frame;
 
 #[unsafe(no_mangle)]
 pub extern "C" fn klem_check(block: &[u8], res: &mut [u64]) -> u64
-    ensures* { λ r. ⌜ KlemCheck block.now res.old (record { number = r; result = res.new; lent = [] }) ⌝ }
+    ensures { KlemCheck block.now res.old (record { number = result; result = res.new; lent = [] }) }
 {
     reply::tell(res, true, reply::verdict(grammar::check(block)))
 }
 
 #[unsafe(no_mangle)]
 pub extern "C" fn klem_run(block: &[u8], frame: &mut [u64], budget: u64, res: &mut [u64]) -> u64
-    ensures* { λ r. ⌜ KlemRun block.now frame.old budget res.old (record { number = r; result = res.new; lent = frame.new }) ⌝ }
+    ensures { KlemRun block.now frame.old budget res.old (record { number = result; result = res.new; lent = frame.new }) }
 {
     if slices::both(res.len() == slices::RESULT, frame.len() == slices::FRAME) {
         let width = frames::width_word(frame);
@@ -51,7 +51,7 @@ pub extern "C" fn klem_width_of_ssdt(dsdt: u8, ssdt: u8) -> u64
 
 #[unsafe(no_mangle)]
 pub extern "C" fn klem_frame_new(frame: &mut [u64], width: u64, res: &mut [u64]) -> u64
-    ensures* { λ r. ⌜ record { number = r; result = res.new; lent = frame.new } ≡ klem_frame_new_after frame.old width res.old ⌝ }
+    ensures { record { number = result; result = res.new; lent = frame.new } ≡ klem_frame_new_after frame.old width res.old }
 {
     let fit = frame.len() == slices::FRAME;
     frames::put_frame(
@@ -64,7 +64,7 @@ pub extern "C" fn klem_frame_new(frame: &mut [u64], width: u64, res: &mut [u64])
 
 #[unsafe(no_mangle)]
 pub extern "C" fn klem_frame_get(frame: &[u64], cell: usize, res: &mut [u64]) -> u64
-    ensures* { λ r. ⌜ record { number = r; result = res.new; lent = [] } ≡ klem_frame_get_after frame.now cell res.old ⌝ }
+    ensures { record { number = result; result = res.new; lent = [] } ≡ klem_frame_get_after frame.now cell res.old }
 {
     let f = frames::frame_in(frame);
     reply::tell(
@@ -81,7 +81,7 @@ pub extern "C" fn klem_frame_set(
     number: u64,
     res: &mut [u64],
 ) -> u64
-    ensures* { λ r. ⌜ record { number = r; result = res.new; lent = frame.new } ≡ klem_frame_set_after frame.old cell number res.old ⌝ }
+    ensures { record { number = result; result = res.new; lent = frame.new } ≡ klem_frame_set_after frame.old cell number res.old }
 {
     let f = frames::frame_in(frame);
     let fit = frame.len() == slices::FRAME;

@@ -6,7 +6,7 @@ use crate::{reply, slices};
 
 #[unsafe(no_mangle)]
 pub extern "C" fn klem_header_read(table: &[u8], res: &mut [u64]) -> u64
-    ensures* { λ r. ⌜ record { number = r; result = res.new; lent = [] } ≡ klem_header_read_after table.now res.old ⌝ }
+    ensures { record { number = result; result = res.new; lent = [] } ≡ klem_header_read_after table.now res.old }
 {
     reply::tell(res, true, reply::header(header::read(table)))
 }
@@ -20,7 +20,7 @@ pub extern "C" fn klem_header_write(
     out: &mut [u8],
     res: &mut [u64],
 ) -> u64
-    ensures* { λ r. ⌜ record { number = r; result = res.new; lent = out.new } ≡ klem_header_write_after signature.now revision rest.now body.now out.old res.old ⌝ }
+    ensures { record { number = result; result = res.new; lent = out.new } ≡ klem_header_write_after signature.now revision rest.now body.now out.old res.old }
 {
     if slices::both(
         res.len() == slices::RESULT,

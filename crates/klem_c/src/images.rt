@@ -6,7 +6,7 @@ use crate::{reply, slices};
 
 #[unsafe(no_mangle)]
 pub extern "C" fn klem_image_write(table: &[u64], out: &mut [u8], res: &mut [u64]) -> u64
-    ensures* { λ r. ⌜ record { number = r; result = res.new; lent = out.new } ≡ klem_image_write_after table.now out.old res.old ⌝ }
+    ensures { record { number = result; result = res.new; lent = out.new } ≡ klem_image_write_after table.now out.old res.old }
 {
     if res.len() == slices::RESULT {
         let a = image::write(table, out);
@@ -17,7 +17,7 @@ pub extern "C" fn klem_image_write(table: &[u64], out: &mut [u8], res: &mut [u64
 
 #[unsafe(no_mangle)]
 pub extern "C" fn klem_image_read(bytes: &[u8], table: &mut [u64], res: &mut [u64]) -> u64
-    ensures* { λ r. ⌜ record { number = r; result = res.new; lent = table.new } ≡ klem_image_read_after bytes.now table.old res.old ⌝ }
+    ensures { record { number = result; result = res.new; lent = table.new } ≡ klem_image_read_after bytes.now table.old res.old }
 {
     if res.len() == slices::RESULT {
         let a = image::read(bytes, table);

@@ -7,21 +7,21 @@ use pkg_length::PkgLength;
 
 #[unsafe(no_mangle)]
 pub extern "C" fn klem_pkg_length(input: &[u8], res: &mut [u64]) -> u64
-    ensures* { λ r. ⌜ record { number = r; result = res.new; lent = [] } ≡ klem_pkg_length_after input.now res.old ⌝ }
+    ensures { record { number = result; result = res.new; lent = [] } ≡ klem_pkg_length_after input.now res.old }
 {
     reply::tell(res, true, reply::pkg(pkg_length::pkg_length(input)))
 }
 
 #[unsafe(no_mangle)]
 pub extern "C" fn klem_raw_pkg_length(input: &[u8], res: &mut [u64]) -> u64
-    ensures* { λ r. ⌜ record { number = r; result = res.new; lent = [] } ≡ klem_raw_pkg_length_after input.now res.old ⌝ }
+    ensures { record { number = result; result = res.new; lent = [] } ≡ klem_raw_pkg_length_after input.now res.old }
 {
     reply::tell(res, true, reply::raw(pkg_length::raw_pkg_length(input)))
 }
 
 #[unsafe(no_mangle)]
 pub extern "C" fn klem_from_raw_length(stream: &[u8], raw_length: usize, res: &mut [u64]) -> u64
-    ensures* { λ r. ⌜ record { number = r; result = res.new; lent = [] } ≡ klem_from_raw_length_after stream.now raw_length res.old ⌝ }
+    ensures { record { number = result; result = res.new; lent = [] } ≡ klem_from_raw_length_after stream.now raw_length res.old }
 {
     reply::tell(
         res,

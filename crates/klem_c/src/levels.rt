@@ -53,7 +53,7 @@ fn listed(table: &[u64], path: AmlName, list: &mut [u64]) -> LevelsAnswer
 
 #[unsafe(no_mangle)]
 pub extern "C" fn klem_levels(table: &[u64], path: &[u8], list: &mut [u64], res: &mut [u64]) -> u64
-    ensures* { λ r. ⌜ record { number = r; result = res.new; lent = list.new } ≡ klem_levels_after table.now path.now list.old res.old ⌝ }
+    ensures { record { number = result; result = res.new; lent = list.new } ≡ klem_levels_after table.now path.now list.old res.old }
 {
     if slices::both(res.len() == slices::RESULT, path.len() == slices::PATH) {
         let a = listed(table, slices::path_in(path), list);

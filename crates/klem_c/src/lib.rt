@@ -1,4 +1,6 @@
 // What a kernel links: every call of include/klem.h, on numbers and slices.
+#![tactic(auto)]
+
 pub mod blocks;
 mod frames;
 pub mod headers;

@@ -28,7 +28,7 @@ pub extern "C" fn klem_is_name_char(byte: u8) -> bool
 
 #[unsafe(no_mangle)]
 pub extern "C" fn klem_name_string(input: &[u8], out: &mut [u8], res: &mut [u64]) -> u64
-    ensures* { λ r. ⌜ record { number = r; result = res.new; lent = out.new } ≡ klem_name_string_after input.now out.old res.old ⌝ }
+    ensures { record { number = result; result = res.new; lent = out.new } ≡ klem_name_string_after input.now out.old res.old }
 {
     let a = name_object::name_string(input);
     let said = a.said;

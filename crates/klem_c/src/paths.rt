@@ -7,14 +7,14 @@ use name_object::NameSeg;
 
 #[unsafe(no_mangle)]
 pub extern "C" fn klem_root(out: &mut [u8], res: &mut [u64]) -> u64
-    ensures* { λ r. ⌜ record { number = r; result = res.new; lent = out.new } ≡ klem_root_after out.old res.old ⌝ }
+    ensures { record { number = result; result = res.new; lent = out.new } ≡ klem_root_after out.old res.old }
 {
     reply::tell_path(out, res, true, path::root(), reply::given(0, 0, 0))
 }
 
 #[unsafe(no_mangle)]
 pub extern "C" fn klem_from_name_seg(seg: &[u8], out: &mut [u8], res: &mut [u64]) -> u64
-    ensures* { λ r. ⌜ record { number = r; result = res.new; lent = out.new } ≡ klem_from_name_seg_after seg.now out.old res.old ⌝ }
+    ensures { record { number = result; result = res.new; lent = out.new } ≡ klem_from_name_seg_after seg.now out.old res.old }
 {
     let a = path::from_name_seg(NameSeg(slices::four_in(seg)));
     let said = a.said;
@@ -35,7 +35,7 @@ pub extern "C" fn klem_from_components(
     out: &mut [u8],
     res: &mut [u64],
 ) -> u64
-    ensures* { λ r. ⌜ record { number = r; result = res.new; lent = out.new } ≡ klem_from_components_after count bytes.now out.old res.old ⌝ }
+    ensures { record { number = result; result = res.new; lent = out.new } ≡ klem_from_components_after count bytes.now out.old res.old }
 {
     let a = path::from_components(count, slices::bytes_in(bytes));
     let said = a.said;
@@ -51,7 +51,7 @@ pub extern "C" fn klem_from_components(
 
 #[unsafe(no_mangle)]
 pub extern "C" fn klem_from_str(text: &[u8], out: &mut [u8], res: &mut [u64]) -> u64
-    ensures* { λ r. ⌜ record { number = r; result = res.new; lent = out.new } ≡ klem_from_str_after text.now out.old res.old ⌝ }
+    ensures { record { number = result; result = res.new; lent = out.new } ≡ klem_from_str_after text.now out.old res.old }
 {
     let a = path::from_str(text);
     let said = a.said;
@@ -61,7 +61,7 @@ pub extern "C" fn klem_from_str(text: &[u8], out: &mut [u8], res: &mut [u64]) ->
 
 #[unsafe(no_mangle)]
 pub extern "C" fn klem_as_string(path: &[u8], text: &mut [u8], res: &mut [u64]) -> u64
-    ensures* { λ r. ⌜ record { number = r; result = res.new; lent = text.new } ≡ klem_as_string_after path.now text.old res.old ⌝ }
+    ensures { record { number = result; result = res.new; lent = text.new } ≡ klem_as_string_after path.now text.old res.old }
 {
     if slices::both(res.len() == slices::RESULT, path.len() == slices::PATH) {
         let a = path::as_string(slices::path_in(path), text);
@@ -72,7 +72,7 @@ pub extern "C" fn klem_as_string(path: &[u8], text: &mut [u8], res: &mut [u64]) 
 
 #[unsafe(no_mangle)]
 pub extern "C" fn klem_is_normal(path: &[u8], res: &mut [u64]) -> u64
-    ensures* { λ r. ⌜ record { number = r; result = res.new; lent = [] } ≡ klem_is_normal_after path.now res.old ⌝ }
+    ensures { record { number = result; result = res.new; lent = [] } ≡ klem_is_normal_after path.now res.old }
 {
     reply::tell(
         res,
@@ -83,7 +83,7 @@ pub extern "C" fn klem_is_normal(path: &[u8], res: &mut [u64]) -> u64
 
 #[unsafe(no_mangle)]
 pub extern "C" fn klem_is_absolute(path: &[u8], res: &mut [u64]) -> u64
-    ensures* { λ r. ⌜ record { number = r; result = res.new; lent = [] } ≡ klem_is_absolute_after path.now res.old ⌝ }
+    ensures { record { number = result; result = res.new; lent = [] } ≡ klem_is_absolute_after path.now res.old }
 {
     reply::tell(
         res,
@@ -94,7 +94,7 @@ pub extern "C" fn klem_is_absolute(path: &[u8], res: &mut [u64]) -> u64
 
 #[unsafe(no_mangle)]
 pub extern "C" fn klem_search_rules_apply(path: &[u8], res: &mut [u64]) -> u64
-    ensures* { λ r. ⌜ record { number = r; result = res.new; lent = [] } ≡ klem_search_rules_apply_after path.now res.old ⌝ }
+    ensures { record { number = result; result = res.new; lent = [] } ≡ klem_search_rules_apply_after path.now res.old }
 {
     reply::tell(
         res,
@@ -105,7 +105,7 @@ pub extern "C" fn klem_search_rules_apply(path: &[u8], res: &mut [u64]) -> u64
 
 #[unsafe(no_mangle)]
 pub extern "C" fn klem_normalize(path: &[u8], out: &mut [u8], res: &mut [u64]) -> u64
-    ensures* { λ r. ⌜ record { number = r; result = res.new; lent = out.new } ≡ klem_normalize_after path.now out.old res.old ⌝ }
+    ensures { record { number = result; result = res.new; lent = out.new } ≡ klem_normalize_after path.now out.old res.old }
 {
     let a = path::normalize(slices::path_in(path));
     let said = a.said;
@@ -121,7 +121,7 @@ pub extern "C" fn klem_normalize(path: &[u8], out: &mut [u8], res: &mut [u64]) -
 
 #[unsafe(no_mangle)]
 pub extern "C" fn klem_parent(path: &[u8], out: &mut [u8], res: &mut [u64]) -> u64
-    ensures* { λ r. ⌜ record { number = r; result = res.new; lent = out.new } ≡ klem_parent_after path.now out.old res.old ⌝ }
+    ensures { record { number = result; result = res.new; lent = out.new } ≡ klem_parent_after path.now out.old res.old }
 {
     let a = path::parent(slices::path_in(path));
     let said = a.said;
@@ -137,7 +137,7 @@ pub extern "C" fn klem_parent(path: &[u8], out: &mut [u8], res: &mut [u64]) -> u
 
 #[unsafe(no_mangle)]
 pub extern "C" fn klem_resolve(path: &[u8], scope: &[u8], out: &mut [u8], res: &mut [u64]) -> u64
-    ensures* { λ r. ⌜ record { number = r; result = res.new; lent = out.new } ≡ klem_resolve_after path.now scope.now out.old res.old ⌝ }
+    ensures { record { number = result; result = res.new; lent = out.new } ≡ klem_resolve_after path.now scope.now out.old res.old }
 {
     let a = path::resolve(slices::path_in(path), slices::path_in(scope));
     let said = a.said;

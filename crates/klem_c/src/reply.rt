@@ -41,7 +41,7 @@ const BAD_CELL: u64 = 1003;
 pub(crate) const BAD_WIDTH: u64 = 1004;
 
 // A refusal's number and place, or 0, 0 and up to three values.
-#[derive(Drop)]
+#[derive(Clone, Copy)]
 pub struct Reply {
     pub number: u64,
     pub place: u64,
@@ -52,7 +52,7 @@ pub struct Reply {
 
 // Writes the result and gives its first word, where it has its length and the other slices have theirs.
 pub(crate) fn tell(res: &mut [u64], others: bool, reply: Reply) -> u64
-    ensures* { λ r. ⌜ record { number = r; result = res.new; lent = [] } ≡ leaves (sized result_words res.old && others) res.old [] (words_of reply) [] ⌝ }
+    ensures { record { number = result; result = res.new; lent = [] } ≡ leaves (sized result_words res.old && others) res.old [] (words_of reply) [] }
 {
     if res.len() == slices::RESULT {
         if others {
@@ -78,7 +78,7 @@ pub(crate) fn tell_path(
     name: AmlName,
     reply: Reply,
 ) -> u64
-    ensures* { λ r. ⌜ record { number = r; result = res.new; lent = out.new } ≡ leaves (sized result_words res.old && (sized path_size out.old && others)) res.old out.old (words_of reply) (cond (eqb reply.number 0) (path_bytes name) out.old) ⌝ }
+    ensures { record { number = result; result = res.new; lent = out.new } ≡ leaves (sized result_words res.old && (sized path_size out.old && others)) res.old out.old (words_of reply) (cond (eqb reply.number 0) (path_bytes name) out.old) }
 {
     let fit = slices::both(out.len() == slices::PATH, others);
     let given = slices::both(fit, reply.number == 0);

@@ -33,7 +33,7 @@ pub extern "C" fn klem_well_formed(table: &[u64]) -> bool
 
 #[unsafe(no_mangle)]
 pub extern "C" fn klem_table_new(table: &mut [u64], res: &mut [u64]) -> u64
-    ensures* { λ r. ⌜ record { number = r; result = res.new; lent = table.new } ≡ klem_table_new_after table.old res.old ⌝ }
+    ensures { record { number = result; result = res.new; lent = table.new } ≡ klem_table_new_after table.old res.old }
 {
     if res.len() == slices::RESULT {
         let a = namespace::new(table);
@@ -44,7 +44,7 @@ pub extern "C" fn klem_table_new(table: &mut [u64], res: &mut [u64]) -> u64
 
 #[unsafe(no_mangle)]
 pub extern "C" fn klem_add_level(table: &mut [u64], path: &[u8], typ: u64, res: &mut [u64]) -> u64
-    ensures* { λ r. ⌜ record { number = r; result = res.new; lent = table.new } ≡ klem_add_level_after table.old path.now typ res.old ⌝ }
+    ensures { record { number = result; result = res.new; lent = table.new } ≡ klem_add_level_after table.old path.now typ res.old }
 {
     if slices::both(res.len() == slices::RESULT, path.len() == slices::PATH) {
         if 5 < typ {
@@ -58,7 +58,7 @@ pub extern "C" fn klem_add_level(table: &mut [u64], path: &[u8], typ: u64, res: 
 
 #[unsafe(no_mangle)]
 pub extern "C" fn klem_remove_level(table: &mut [u64], path: &[u8], res: &mut [u64]) -> u64
-    ensures* { λ r. ⌜ record { number = r; result = res.new; lent = table.new } ≡ klem_remove_level_after table.old path.now res.old ⌝ }
+    ensures { record { number = result; result = res.new; lent = table.new } ≡ klem_remove_level_after table.old path.now res.old }
 {
     if slices::both(res.len() == slices::RESULT, path.len() == slices::PATH) {
         let a = namespace::remove_level(table, slices::path_in(path));
@@ -69,7 +69,7 @@ pub extern "C" fn klem_remove_level(table: &mut [u64], path: &[u8], res: &mut [u
 
 #[unsafe(no_mangle)]
 pub extern "C" fn klem_add_value(table: &mut [u64], path: &[u8], value: u64, res: &mut [u64]) -> u64
-    ensures* { λ r. ⌜ record { number = r; result = res.new; lent = table.new } ≡ klem_add_value_after table.old path.now value res.old ⌝ }
+    ensures { record { number = result; result = res.new; lent = table.new } ≡ klem_add_value_after table.old path.now value res.old }
 {
     if slices::both(res.len() == slices::RESULT, path.len() == slices::PATH) {
         let a = namespace::add_value(table, slices::path_in(path), value);
@@ -86,7 +86,7 @@ pub extern "C" fn klem_add_value_at_resolved_path(
     value: u64,
     res: &mut [u64],
 ) -> u64
-    ensures* { λ r. ⌜ record { number = r; result = res.new; lent = table.new } ≡ klem_add_value_at_resolved_path_after table.old path.now scope.now value res.old ⌝ }
+    ensures { record { number = result; result = res.new; lent = table.new } ≡ klem_add_value_at_resolved_path_after table.old path.now scope.now value res.old }
 {
     if slices::both(
         res.len() == slices::RESULT,
@@ -111,7 +111,7 @@ pub extern "C" fn klem_add_alias_at_resolved_path(
     target: &[u8],
     res: &mut [u64],
 ) -> u64
-    ensures* { λ r. ⌜ record { number = r; result = res.new; lent = table.new } ≡ klem_add_alias_at_resolved_path_after table.old path.now scope.now target.now res.old ⌝ }
+    ensures { record { number = result; result = res.new; lent = table.new } ≡ klem_add_alias_at_resolved_path_after table.old path.now scope.now target.now res.old }
 {
     if slices::both(
         res.len() == slices::RESULT,
@@ -133,7 +133,7 @@ pub extern "C" fn klem_add_alias_at_resolved_path(
 
 #[unsafe(no_mangle)]
 pub extern "C" fn klem_get(table: &[u64], handle: u32, res: &mut [u64]) -> u64
-    ensures* { λ r. ⌜ record { number = r; result = res.new; lent = [] } ≡ klem_get_after table.now handle res.old ⌝ }
+    ensures { record { number = result; result = res.new; lent = [] } ≡ klem_get_after table.now handle res.old }
 {
     reply::tell(
         res,
@@ -144,7 +144,7 @@ pub extern "C" fn klem_get(table: &[u64], handle: u32, res: &mut [u64]) -> u64
 
 #[unsafe(no_mangle)]
 pub extern "C" fn klem_set(table: &mut [u64], handle: u32, value: u64, res: &mut [u64]) -> u64
-    ensures* { λ r. ⌜ record { number = r; result = res.new; lent = table.new } ≡ klem_set_after table.old handle value res.old ⌝ }
+    ensures { record { number = result; result = res.new; lent = table.new } ≡ klem_set_after table.old handle value res.old }
 {
     if res.len() == slices::RESULT {
         let a = namespace::set(table, AmlHandle(handle), value);
@@ -155,7 +155,7 @@ pub extern "C" fn klem_set(table: &mut [u64], handle: u32, value: u64, res: &mut
 
 #[unsafe(no_mangle)]
 pub extern "C" fn klem_get_handle(table: &[u64], path: &[u8], res: &mut [u64]) -> u64
-    ensures* { λ r. ⌜ record { number = r; result = res.new; lent = [] } ≡ klem_get_handle_after table.now path.now res.old ⌝ }
+    ensures { record { number = result; result = res.new; lent = [] } ≡ klem_get_handle_after table.now path.now res.old }
 {
     reply::tell(
         res,
@@ -166,7 +166,7 @@ pub extern "C" fn klem_get_handle(table: &[u64], path: &[u8], res: &mut [u64]) -
 
 #[unsafe(no_mangle)]
 pub extern "C" fn klem_get_by_path(table: &[u64], path: &[u8], res: &mut [u64]) -> u64
-    ensures* { λ r. ⌜ record { number = r; result = res.new; lent = [] } ≡ klem_get_by_path_after table.now path.now res.old ⌝ }
+    ensures { record { number = result; result = res.new; lent = [] } ≡ klem_get_by_path_after table.now path.now res.old }
 {
     reply::tell(
         res,
@@ -182,7 +182,7 @@ pub extern "C" fn klem_set_by_path(
     value: u64,
     res: &mut [u64],
 ) -> u64
-    ensures* { λ r. ⌜ record { number = r; result = res.new; lent = table.new } ≡ klem_set_by_path_after table.old path.now value res.old ⌝ }
+    ensures { record { number = result; result = res.new; lent = table.new } ≡ klem_set_by_path_after table.old path.now value res.old }
 {
     if slices::both(res.len() == slices::RESULT, path.len() == slices::PATH) {
         let a = namespace::set_by_path(table, slices::path_in(path), value);
@@ -199,7 +199,7 @@ pub extern "C" fn klem_search(
     out: &mut [u8],
     res: &mut [u64],
 ) -> u64
-    ensures* { λ r. ⌜ record { number = r; result = res.new; lent = out.new } ≡ klem_search_after table.now path.now scope.now out.old res.old ⌝ }
+    ensures { record { number = result; result = res.new; lent = out.new } ≡ klem_search_after table.now path.now scope.now out.old res.old }
 {
     let a = namespace::search(table, slices::path_in(path), slices::path_in(scope));
     let said = a.said;
@@ -221,7 +221,7 @@ pub extern "C" fn klem_search_for_level(
     out: &mut [u8],
     res: &mut [u64],
 ) -> u64
-    ensures* { λ r. ⌜ record { number = r; result = res.new; lent = out.new } ≡ klem_search_for_level_after table.now path.now scope.now out.old res.old ⌝ }
+    ensures { record { number = result; result = res.new; lent = out.new } ≡ klem_search_for_level_after table.now path.now scope.now out.old res.old }
 {
     let a = namespace::search_for_level(table, slices::path_in(path), slices::path_in(scope));
     let said = a.said;

@@ -1,4 +1,6 @@
 // Names in byte code: the name part of name_object.rs. Any bytes become a path or a numbered refusal.
+#![tactic(auto)]
+
 ghost use Rattle.std.specs.Prelude.{◌≡◌, ◌+◌, ◌*◌, ◌<◌, ◌≤◌, length};
 ghost use Rattle.pkg_length.specs.Refusal.{refused};
 ghost use Rattle.name_object.specs.Component.{component_limit, lead_ok, digit_ok, char_ok};
@@ -27,45 +29,45 @@ const ROOT_CHAR: u8 = 0x5C;
 const PREFIX_CHAR: u8 = 0x5E;
 
 // A segment of a name: a lead, then three of lead or digit.
-#[derive(Drop)]
+#[derive(Clone, Copy)]
 pub struct NameSeg(pub [u8; 4]);
 
 // A path: how many components, and four bytes for each: a segment, or 5C or 5E and zeros. Spare bytes are zero, so equal paths are equal values.
-#[derive(Drop)]
+#[derive(Clone, Copy)]
 pub struct AmlName {
     pub count: usize,
     pub bytes: [u8; PATH_BYTES],
 }
 
 // The bytes used, or why there is no path.
-#[derive(Drop)]
+#[derive(Clone, Copy)]
 pub enum NameSaid {
     Used(usize),
     Refused(AmlError),
 }
 
 // The path stands beside the answer; beside a refusal it is the empty path.
-#[derive(Drop)]
+#[derive(Clone, Copy)]
 pub struct NameAnswer {
     pub name: AmlName,
     pub said: NameSaid,
 }
 
 // Where reading goes on.
-#[derive(Drop)]
+#[derive(Clone, Copy)]
 enum Cursor {
     At(usize),
     Refused(AmlError),
 }
 
 // That many segments from an offset on.
-#[derive(Drop)]
+#[derive(Clone, Copy)]
 struct Run {
     from: usize,
     count: usize,
 }
 
-#[derive(Drop)]
+#[derive(Clone, Copy)]
 enum RunAnswer {
     Segments(Run),
     Refused(AmlError),

@@ -72,7 +72,7 @@ fn keys_of(path: AmlName) -> [u64; COMPONENTS]
 }
 
 // A path's keys, the first `count` of them, or what the path is refused with.
-#[derive(Drop)]
+#[derive(Clone, Copy)]
 pub struct PathKeys {
     pub keys: [u64; COMPONENTS],
     pub count: usize,
@@ -209,7 +209,7 @@ pub fn look_up(table: &[u64], path: &[u64]) -> HandleAnswer
 }
 
 // Where a name would be bound.
-#[derive(Drop)]
+#[derive(Clone, Copy)]
 enum Room {
     // the index of its level's record, and where its word would stand among the bindings
     At(usize, usize),

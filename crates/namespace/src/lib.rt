@@ -1,4 +1,6 @@
 // The namespace: the tree of levels, bindings and objects in lent words, with its edits, lookup and search (namespace.rs).
+#![tactic(auto)]
+
 ghost use Rattle.std.specs.Prelude.{◌≡◌, ◌+◌, length};
 ghost use Rattle.name_object.specs.Component.{component_limit};
 ghost use Rattle.name_object.specs.Memory.{told};
@@ -15,7 +17,7 @@ use pkg_length::AmlError;
 mod inner;
 pub mod listing;
 
-#[derive(Drop)]
+#[derive(Clone, Copy)]
 pub enum LevelType {
     Scope,
     Device,
@@ -30,59 +32,59 @@ pub enum LevelType {
 }
 
 // A handle refers to an object. Handles count from 0, and one is never handed out again.
-#[derive(Drop)]
+#[derive(Clone, Copy)]
 pub struct AmlHandle(pub u32);
 
 // An edit that gives nothing back.
-#[derive(Drop)]
+#[derive(Clone, Copy)]
 pub enum EditAnswer {
     Done,
     Refused(AmlError),
 }
 
 // An object's value.
-#[derive(Drop)]
+#[derive(Clone, Copy)]
 pub enum ValueAnswer {
     Value(u64),
     Refused(AmlError),
 }
 
 // A handle.
-#[derive(Drop)]
+#[derive(Clone, Copy)]
 pub enum HandleAnswer {
     Handle(AmlHandle),
     Refused(AmlError),
 }
 
 // A handle, and how many scopes were asked.
-#[derive(Drop)]
+#[derive(Clone, Copy)]
 pub enum SearchSaid {
     Found(AmlHandle, usize),
     Refused(AmlError),
 }
 
 // The full name stands beside the answer; beside a refusal it is the empty path.
-#[derive(Drop)]
+#[derive(Clone, Copy)]
 pub struct SearchAnswer {
     pub name: AmlName,
     pub said: SearchSaid,
 }
 
 // How many scopes were asked.
-#[derive(Drop)]
+#[derive(Clone, Copy)]
 pub enum LevelSaid {
     At(usize),
     Refused(AmlError),
 }
 
-#[derive(Drop)]
+#[derive(Clone, Copy)]
 pub struct LevelAnswer {
     pub name: AmlName,
     pub said: LevelSaid,
 }
 
 // A level in a list: its depth, the root's being 0, its type, and its segment, four zero bytes for the root.
-#[derive(Drop)]
+#[derive(Clone, Copy)]
 pub struct LevelRecord {
     pub depth: usize,
     pub typ: LevelType,
@@ -90,7 +92,7 @@ pub struct LevelRecord {
 }
 
 // How many records were written.
-#[derive(Drop)]
+#[derive(Clone, Copy)]
 pub enum LevelsAnswer {
     Written(usize),
     Refused(AmlError),

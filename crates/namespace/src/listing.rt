@@ -18,7 +18,7 @@ use table::inner::Sought;
 use table::layout::{LEVELS, RANK, SEGMENT, TYPE};
 
 // Where the levels that are asked for stand in the table: `count` words from index `at` on, none beside a refusal.
-#[derive(Drop)]
+#[derive(Clone, Copy)]
 pub struct Listing {
     pub at: usize,
     pub count: usize,

@@ -11,7 +11,7 @@ use name_object::{COMPONENTS, PATH_BYTES};
 use pkg_length::AmlError;
 
 // How many components stand, or that a `^` found no segment.
-#[derive(Drop)]
+#[derive(Clone, Copy)]
 pub enum Climb {
     High(usize),
     NoSegment,

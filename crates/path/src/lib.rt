@@ -1,4 +1,6 @@
 // Paths: what namespace.rs does with `AmlName`. Any memory is taken; what holds no path is refused (26) before anything else.
+#![tactic(auto)]
+
 ghost use Rattle.std.specs.Prelude.{◌≡◌, List, [], ◌∷◌, length};
 ghost use Rattle.pkg_length.specs.Refusal.{Answer, gives, refused, and_then};
 ghost use Rattle.name_object.specs.Component.{Component, root, component_limit};
@@ -20,28 +22,28 @@ mod valid;
 // The longest text of a path: four bytes for each component, and a dot between two.
 pub const TEXT_BYTES: usize = 5 * COMPONENTS - 1;
 
-#[derive(Drop)]
+#[derive(Clone, Copy)]
 pub enum PathSaid {
     Done,
     Refused(AmlError),
 }
 
 // The path stands beside the answer; beside a refusal it is the empty path.
-#[derive(Drop)]
+#[derive(Clone, Copy)]
 pub struct PathAnswer {
     pub name: AmlName,
     pub said: PathSaid,
 }
 
 // What a test of a path says.
-#[derive(Drop)]
+#[derive(Clone, Copy)]
 pub enum FlagAnswer {
     Is(bool),
     Refused(AmlError),
 }
 
 // The bytes of text written.
-#[derive(Drop)]
+#[derive(Clone, Copy)]
 pub enum TextAnswer {
     Length(usize),
     Refused(AmlError),

@@ -10,20 +10,20 @@ use crate::memory;
 use name_object::PATH_BYTES;
 
 // A reader of text: components read, and characters of a segment that is begun; none before a segment.
-#[derive(Drop)]
+#[derive(Clone, Copy)]
 pub struct Reading {
     pub count: usize,
     pub chars: usize,
 }
 
-#[derive(Drop)]
+#[derive(Clone, Copy)]
 pub enum Turn {
     On(Reading),
     Wrong,
 }
 
 // How many components, or where a wrong segment starts.
-#[derive(Drop)]
+#[derive(Clone, Copy)]
 pub enum PartsEnd {
     Count(usize),
     Wrong(usize),

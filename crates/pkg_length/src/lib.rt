@@ -1,4 +1,6 @@
 // The refusals that every layer shares, and package lengths (pkg_length.rs).
+#![tactic(auto)]
+
 ghost use Rattle.std.specs.Prelude.{◌≡◌, ltb, length};
 ghost use Rattle.pkg_length.specs.Refusal.{paper};
 ghost use Rattle.pkg_length.specs.Pkg.{raw_said, length_said, pkg_said, raw_length_answer, from_raw, pkg_length_answer};
@@ -6,7 +8,7 @@ ghost use Rattle.pkg_length.specs.Pkg.{raw_said, length_said, pkg_said, raw_leng
 pub mod inner;
 
 // The refusals of document 01's table, under its names and in its order, then those of 02; each with its place where the paper gives one.
-#[derive(Drop)]
+#[derive(Clone, Copy)]
 pub enum AmlError {
     UnexpectedEndOfStream(usize),
     InvalidPkgLength(usize),
@@ -55,7 +57,7 @@ pub enum AmlError {
 }
 
 // A refusal as the table numbers it: the number, and the place, 0 where the table gives none.
-#[derive(Drop)]
+#[derive(Clone, Copy)]
 pub struct Refusal(pub usize, pub usize);
 
 impl AmlError {
@@ -111,7 +113,7 @@ impl AmlError {
     }
 }
 
-#[derive(Drop)]
+#[derive(Clone, Copy)]
 pub struct PkgLength {
     pub raw_length: usize,
     // What is left of the stream where the package ends.
@@ -119,21 +121,21 @@ pub struct PkgLength {
 }
 
 // A raw length, and how many bytes spell it.
-#[derive(Drop)]
+#[derive(Clone, Copy)]
 pub enum RawAnswer {
     Raw(usize, usize),
     Refused(AmlError),
 }
 
 // A package length in a stream.
-#[derive(Drop)]
+#[derive(Clone, Copy)]
 pub enum LengthAnswer {
     Length(PkgLength),
     Refused(AmlError),
 }
 
 // A package length that was read, and how many bytes spell it.
-#[derive(Drop)]
+#[derive(Clone, Copy)]
 pub enum PkgAnswer {
     Read(PkgLength, usize),
     Refused(AmlError),

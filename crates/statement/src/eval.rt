@@ -15,7 +15,7 @@ use grammar::opcode;
 use grammar::opcode::{Dest, OneOp, StepOp, TermOp, TwoOp};
 
 // A term's number and where reading goes on, or the unset cell that was read.
-#[derive(Drop)]
+#[derive(Clone, Copy)]
 pub enum Value {
     Num(u64, usize),
     Missing(usize),

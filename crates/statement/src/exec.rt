@@ -16,7 +16,7 @@ use grammar::opcode::{Plain, StmtOp};
 use pkg_length::PkgAnswer;
 
 // How a statement or a list ended (parser.rs: Propagate).
-#[derive(Drop)]
+#[derive(Clone, Copy)]
 pub enum Out {
     Finished,
     Returned(u64),
@@ -26,14 +26,14 @@ pub enum Out {
     Unset(usize),
 }
 
-#[derive(Drop)]
+#[derive(Clone, Copy)]
 pub struct Done {
     pub units: u64,
     pub out: Out,
 }
 
 // `next` is where reading goes on, if the statement finished.
-#[derive(Drop)]
+#[derive(Clone, Copy)]
 pub struct Moved {
     pub units: u64,
     pub next: usize,
@@ -41,7 +41,7 @@ pub struct Moved {
 }
 
 // A package that was read before: its raw length, and how many bytes spell it.
-#[derive(Drop)]
+#[derive(Clone, Copy)]
 pub struct Span {
     pub raw: usize,
     pub used: usize,

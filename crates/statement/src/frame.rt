@@ -5,7 +5,7 @@ ghost use Rattle.statement.specs.Frames.{width_of, fresh, held, wrote, cell_said
 use pkg_length::AmlError;
 
 // How many bits numbers have.
-#[derive(Drop)]
+#[derive(Clone, Copy)]
 pub enum Width {
     Bits32,
     Bits64,
@@ -29,7 +29,7 @@ pub fn width_of_ssdt(dsdt: u8, ssdt: u8) -> Width
     width_of(dsdt)
 }
 
-#[derive(Drop)]
+#[derive(Clone, Copy)]
 pub struct Frame {
     pub set: [bool; 15],
     pub val: [u64; 15],
@@ -37,7 +37,7 @@ pub struct Frame {
 }
 
 // What a cell holds, or 23.
-#[derive(Drop)]
+#[derive(Clone, Copy)]
 pub enum CellAnswer {
     Number(u64),
     Refused(AmlError),

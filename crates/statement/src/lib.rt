@@ -1,4 +1,6 @@
 // Control blocks (statement.rs): the run of a block that the grammar derives.
+#![tactic(auto)]
+
 ghost use Rattle.std.specs.Prelude.{◌≡◌};
 ghost use Rattle.statement.specs.Lent.{out_said};
 ghost use Rattle.statement.specs.Promise.{HasRun, end_said};
@@ -14,7 +16,7 @@ pub mod frame;
 mod number;
 
 // How a run ended.
-#[derive(Drop)]
+#[derive(Clone, Copy)]
 pub enum End {
     Finished,
     Returned(u64),
@@ -24,7 +26,7 @@ pub enum End {
 }
 
 // With whether execution began, which a refusal alone does not tell, the units used, and the frame.
-#[derive(Drop)]
+#[derive(Clone, Copy)]
 pub struct RunAnswer {
     pub began: bool,
     pub end: End,

@@ -214,7 +214,7 @@ pub fn close_gap(xs: &mut [u64], at: usize, end: usize)
 }
 
 // Where a path leads.
-#[derive(Drop)]
+#[derive(Clone, Copy)]
 pub enum Sought {
     // the index of the level's record, and of its first binding
     Here(usize, usize),
@@ -237,7 +237,7 @@ fn gone_at(n: usize, j: usize, k: usize) -> Sought
 }
 
 // A level's child.
-#[derive(Drop)]
+#[derive(Clone, Copy)]
 pub enum Child {
     // the index of its record, and of its first binding
     At(usize, usize),
@@ -304,7 +304,7 @@ pub fn seek(levels: &[u64], path: &[u64]) -> Sought
 }
 
 // The index past a level's records and those below it, and past their bindings.
-#[derive(Drop)]
+#[derive(Clone, Copy)]
 pub struct Run {
     pub end: usize,
     pub to: usize,
@@ -329,7 +329,7 @@ pub fn subtree(levels: &[u64], j: usize, from: usize) -> Run
 }
 
 // A segment among a level's bindings.
-#[derive(Drop)]
+#[derive(Clone, Copy)]
 pub enum Slot {
     // its handle
     Bound(u64),
@@ -364,7 +364,7 @@ fn find_slot(bindings: &[u64], from: usize, n: usize, seg: u64) -> Slot
 }
 
 // Where a path's last segment is bound, or would be.
-#[derive(Drop)]
+#[derive(Clone, Copy)]
 pub enum Spot {
     // its handle
     Bound(u64),
@@ -413,7 +413,7 @@ pub fn bind(table: &mut [u64], at: usize, i: usize, word: u64)
 }
 
 // The innermost scope that holds a segment: how many components it has, 0 for none, and the handle.
-#[derive(Drop)]
+#[derive(Clone, Copy)]
 pub struct Nearest {
     pub depth: usize,
     pub handle: u64,

@@ -1,4 +1,6 @@
 // The table's words: level records, binding words, and the objects' count and values. The layer above makes the calls of them.
+#![tactic(auto)]
+
 ghost use Rattle.std.specs.Prelude.{◌≡◌};
 ghost use Rattle.table.specs.Limits.{limits};
 ghost use Rattle.table.specs.Memory.{is_well_formed};
