@@ -1,0 +1,11 @@
+use mathlib.Core.Path.{◌≡◌}
+use Prim.Native.Nat.{◌-◌, ◌≤◌}
+use lib.ListN.{length, drop}
+use Rattle.header.specs.Header.{bytes_same}
+use Rattle.header.proofs.bytes.same.Given as goal
+
+abbrev pub invariant-loop-i : goal.invariant-loop-i
+invariant-loop-i l = (l.i ≤ length l.a) × (length l.a ≡ length l.b) × (bytes_same (drop l.i l.a) (drop l.i l.b) ≡ bytes_same l.a l.b)
+
+abbrev pub decreases-loop-i : goal.decreases-loop-i
+decreases-loop-i l = length l.a - l.i
