@@ -41,6 +41,31 @@ def args_of(text):
     return out
 
 
+def signature(path):
+    """The parameters of a function, as (name, type), by its path in Rust: crate::module::f."""
+    parts = path.split("::")
+    src = os.path.join("crates", parts[0], "src")
+    files = [os.path.join(src, m + ".rt") for m in parts[1:-1]] + [os.path.join(src, f) for f in ("lib.rt", "main.rt")]
+    for f in files:
+        if not os.path.exists(f):
+            continue
+        m = re.search(r"fn " + re.escape(parts[-1]) + r"(?:<[^>]*>)?\(([^{]*?)\)\s*(?:->|requires|ensures|where|\{)", open(f).read(), re.S)
+        if m:
+            out = []
+            for a in re.split(r",(?![^\[(<]*[\])>])", m.group(1)):
+                if ":" in a:
+                    n, ty = a.split(":", 1)
+                    out.append((n.strip().removeprefix("mut ").strip(), ty.strip()))
+                elif a.strip():
+                    out.append((a.strip().split()[-1].lstrip("&"), a.strip()))
+            return out
+    return []
+
+
+def lent(path):
+    return [n for n, ty in signature(path) if ty.startswith("&mut") or re.match(r"&'\w+ mut", ty)]
+
+
 class Said(Exception):
     pass
 
@@ -98,11 +123,26 @@ def steps(t):
     for i, vs in enumerate(t["typed"]):
         for v, step in vs:
             typed[flat(step)] = v
-    return fields, names, typed
+    calls = {flat(p[2][0]): p[3] for p in t["places"] if p[3]}
+    return fields, names, typed, calls
 
 
-def turned(term, t, var, where, said):
-    fields, names, typed = steps(t)
+def inlined(term, fields):
+    """Writes out each let of a step whose fields have names of their own today."""
+    while True:
+        for m in re.finditer(r"let (\S+) = ((\w+)((?:\.before)*)\.([\w'-]+)) in\s+", term):
+            if m.group(1) != m.group(3) and (flat(m.group(5)) in {s for s, _ in fields} or re.search(r"(?<![\w.'-])" + re.escape(m.group(1)) + r"\.(new|auto)\.", term)):
+                rest = term[m.end():]
+                rest = re.sub(r"(?<![\w.'-])" + re.escape(m.group(1)) + r"(?=[.\s)])", m.group(2), rest)
+                term = term[: m.start()] + rest
+                break
+        else:
+            return term
+
+
+def turned(term, t, var, where, said, mine):
+    fields, names, typed, calls = steps(t)
+    term = inlined(term, fields)
     names = dict(names)
     for (old, new), _ in t["loops"]:
         names[flat(old)] = new
@@ -127,6 +167,15 @@ def turned(term, t, var, where, said):
             key = (step, tuple(segs[1:n]))
             if key in fields and not (n == 1):
                 return var + "." + fields[key] + "".join("." + s for s in segs[n:])
+        if segs[0] == "given" or not segs:
+            pass
+        if step in calls and segs[1:2] in (["new"], ["auto"]):
+            n, k = 0, 2
+            while k < len(segs) and segs[k] == "1":
+                n, k = n + 1, k + 1
+            who = lent(calls[step])
+            if k < len(segs) and segs[k] == "0" and n < len(who):
+                return var + "." + names[step] + "." + segs[1] + "." + who[n] + "".join("." + s for s in segs[k + 1:])
         if step in typed and segs[1:2] == ["given"]:
             return var + ".type_inv." + typed[step] + "".join("." + s for s in segs[2:])
         if step in names:
@@ -134,8 +183,8 @@ def turned(term, t, var, where, said):
         said.add(f"{where}: {m.group(0)}")
         return m.group(0)
 
-    out = re.sub(r"(?<![\w.'-])([a-z]\w*'?)((?:\.before)*)((?:\.[\w'-]+)*)", lambda m: path(m) if m.group(1) in prefixes and (m.group(2) or m.group(3)) else m.group(0), term)
-    out = re.sub(r"let (\S+) = " + var + r" in ", lambda m: "", out)
+    out = re.sub(r"(?<![\w.'-])([a-z][\w-]*'?)((?:\.before)*)((?:\.[\w'-]+)*)", lambda m: path(m) if m.group(1) in prefixes and (m.group(2) or m.group(3)) else m.group(0), term)
+    out = re.sub(r"let (\S+) = " + var + r"((?:\.before)*) in\s+", lambda m: "", out)
     for v in prefixes - {var}:
         out = re.sub(r"(?<![\w.'-])" + re.escape(v) + r"(?=\.)", var, out)
     return out
@@ -171,6 +220,7 @@ def turn(folder):
             raise Said("tie.spec is not as expected")
     else:
         args = args_of(m.group(1))
+    mine = signature(CRATE + "::" + rel.replace("/", "::"))
     loops = t["loops"]
     invs = args[: 2 * len(loops)]
     rest = args[2 * len(loops):]
@@ -198,6 +248,22 @@ def turn(folder):
             extra = [l for l in lines[1:at] if l.startswith("unfolding")]
             inv_text.append("\n".join([l for l in lines if l.startswith("--")] + [f"abbrev pub {which}-{new} : goal.{which}-{new}"] + extra + [f"{which}-{new} l ={rhs}"]))
     if len(rest) != len(needs):
+        # by the goals' old names then; what was given in place is said
+        olds = {flat(o): (o, n) for o, n in needs}
+        pairs = []
+        for n in order:
+            m = re.search(r": tie\.Need-(\S+)", by[n][1])
+            if m and n in rest:
+                k = flat(m.group(1))
+                k = next((x for x in (k, k.removeprefix("overflow_")) if x in olds), None)
+                if k is None:
+                    raise Said(f"{len(rest)} answers for {len(needs)} goals, and {m.group(1)} is none of {list(olds)}")
+                pairs.append((n, olds[k]))
+        for a in rest:
+            if a.startswith("(") and "search rules" not in a:
+                said.add(f"{rel}: {len(rest)} answers for {len(needs)} goals; left out {a}")
+        rest, needs = [p[0] for p in pairs], [p[1] for p in pairs]
+    if len(rest) != len(needs):
         raise Said(f"{len(rest)} answers for {len(needs)} goals: {[n[0] for n in needs]}")
     for a, (old, new) in zip(rest, needs):
         if a.startswith("("):
@@ -221,7 +287,8 @@ def turn(folder):
         if re.fullmatch(r"search rules", term):
             continue
         var = params[0]
-        term = turned(term, t, var, f"{rel} {new}", said)
+        term = turned(term, t, var, f"{rel} {new}", said, mine)
+        term = re.sub(r"(\bargs|(?<![\w.'-])a)\.t([0-9]+)\b", lambda m: m.group(1) + "." + mine[int(m.group(2)) - 1][0] if int(m.group(2)) <= len(mine) else m.group(0), term)
         if any(re.search(r"(?<![\w'-])" + re.escape(p) + r"(?![\w'-])", term) for p in params[1:]):
             said.add(f"{rel} {new}: uses {params[1:]}")
         sep = "\n    " if "\n" in term or len(term) > 100 else " "

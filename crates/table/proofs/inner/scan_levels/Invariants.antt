@@ -1,0 +1,18 @@
+use mathlib.Core.Path.{◌≡◌}
+use Prim.Native.Nat.{◌+◌, ◌-◌, ◌≤◌}
+use lib.ListN.{length, drop}
+use Rattle.name_object.specs.Component.{component_limit}
+use Rattle.table.specs.Inside.{scan, lowest, below}
+use Rattle.table.proofs.inner.scan_levels.Reads as reads
+use Rattle.table.proofs.inner.scan_levels.Lts as lts
+use Rattle.table.proofs.inner.rest_zero.Reads as rest-zero-reads
+use Rattle.table.proofs.inner.record_fits.Reads as record-fits-reads
+use Rattle.table.proofs.inner.scan_levels.Given as goal
+
+abbrev pub invariant-loop-k : goal.invariant-loop-k
+invariant-loop-k l =
+    (length l.low ≡ component_limit + 2) × (l.p ≤ component_limit) × (l.k ≤ length l.levels) × (l.m ≤ length l.bindings)
+    × (scan component_limit (below l.made) l.p l.low (drop l.k l.levels) (drop l.m l.bindings) ≡ scan component_limit (below l.made) 0 (lowest component_limit) l.levels l.bindings)
+
+abbrev pub decreases-loop-k : goal.decreases-loop-k
+decreases-loop-k l = length l.levels - l.k
