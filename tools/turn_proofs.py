@@ -161,6 +161,10 @@ def turned(term, t, var, where, said, mine):
         if not segs:
             return var
         step = flat(segs[0])
+        if step not in names:
+            step = re.sub(r"_(\d+)$", r"\1", step)
+        if segs[0] == "args" and len(segs) > 1 and flat(segs[1]) in {n for n, _ in mine}:
+            segs[1] = flat(segs[1])
         if segs[0] in ("args", "requires", "lifetimes", "ranges", "well_formed", "type_inv"):
             return var + "." + ".".join(segs)
         for n in range(len(segs), 0, -1):

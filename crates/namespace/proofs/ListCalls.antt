@@ -43,6 +43,12 @@ unfolding written
 length-written f zero ys = refl
 length-written f (suc i) ys = length-set (written f i ys) i (f i) ∙ length-written f i ys
 
+-- one more
+pub written-more : {A : Type 0} (f : ℕ → A) (i : ℕ) (ys zs : List A) (x : A) → zs ≡ written f i ys → x ≡ f i → set zs i x ≡ written f (i + 1) ys
+unfolding written
+written-more f i ys zs x e h =
+    let s : i + 1 ≡ suc i = omega arith in rw (e, h, s)
+
 written_is : {A : Type 0} (f : ℕ → A) (xs ys : List A) (d : A) → ((i : ℕ) → i < length xs → f i ≡ get_or xs i d) → (n : ℕ) → n ≤ length xs → n ≤ length ys → written f n ys ≡ take n xs ++ drop n ys
 unfolding written
 written_is f xs ys d e zero h k = refl

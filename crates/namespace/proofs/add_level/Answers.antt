@@ -1,0 +1,50 @@
+-- 24, what the path is refused with, and then the work on the tree.
+use mathlib.Core.Path.{◌≡◌, ap, sym, ◌∙◌}
+use Prim.Native.Nat.{ℕ}
+use lib.ListN.{length, take}
+use lib.Seq.{length-take-le}
+use Rattle.name_object.specs.Component.{component_limit}
+use Rattle.table.specs.Limits.{limits}
+use Rattle.table.specs.Memory.{decode, left, done}
+use Rattle.table.specs.Edits.{add_level_answer}
+use Rattle.namespace.specs.Calls.{settled_keys, add_level_call, number_of_type}
+use Rattle.namespace.proofs.Calls.{call-given, call-refused, left-kept}
+use Rattle.namespace.proofs.Laws.{type-low}
+use borrow.Author.Rules.{rules}
+use native.Mathlib.Omega.{arith}
+use Rattle.namespace.proofs.add_level.Goals as goal
+
+pub slice_bounds-keys-end : goal.slice_bounds-keys-end
+slice_bounds-keys-end c =
+    let len : length c.keyed-found.result.keys ≡ component_limit = search rules in
+    omega (arith, (c.keyed-found.ensures.given c.in-Done.is).1.short)
+
+pub slice_bounds-add_level-end : goal.slice_bounds-add_level-end
+slice_bounds-add_level-end c =
+    let len : length c.keyed-found.result.keys ≡ component_limit = search rules in
+    sym (length-take-le c.keyed-found.result.count c.keyed-found.result.keys (omega (arith, (c.keyed-found.ensures.given c.in-Done.is).1.short)))
+
+pub add_level-requires : goal.add_level-requires
+add_level-requires c =
+    let g = c.keyed-found.ensures.given c.in-Done.is in
+    (g.0, g.1.keyed, rw c.type_number.ensures (type-low c.args.typ))
+
+pub returns-in-Refused : goal.returns-in-Refused
+unfolding add_level_call
+returns-in-Refused c =
+    let ws = c.args.table.now in
+    left-kept limits ws _ _ _
+    (call-refused limits ws (settled_keys component_limit c.args.path) c.keyed-found.result c.keyed-found.ensures (λ t p. done (add_level_answer limits t p (number_of_type c.args.typ)))
+    c.in-Refused.e c.in-Refused.is)
+
+pub returns-in-Done : goal.returns-in-Done
+unfolding add_level_call
+returns-in-Done c =
+    let ws = c.args.table.now in
+    c.add_level.ensures ∙ ap (λ (n : ℕ). left limits ws (done (add_level_answer limits (decode limits ws) (take c.keyed-found.result.count c.keyed-found.result.keys) n))) c.type_number.ensures
+    ∙ ap (left limits ws) (call-given limits ws
+    (settled_keys component_limit c.args.path)
+    c.keyed-found.result
+    c.keyed-found.ensures
+    (λ t p. done (add_level_answer limits t p (number_of_type c.args.typ)))
+    c.in-Done.is)
