@@ -178,6 +178,7 @@ def turned(term, t, var, where, said, mine):
             while k < len(segs) and segs[k] == "1":
                 n, k = n + 1, k + 1
             who = lent(calls[step])
+            n = 0 if len(who) == 1 else n
             if k < len(segs) and segs[k] == "0" and n < len(who):
                 return var + "." + names[step] + "." + segs[1] + "." + who[n] + "".join("." + s for s in segs[k + 1:])
         if step in typed and segs[1:2] == ["given"]:
