@@ -59,6 +59,11 @@ TAKEN = {
     "valueIn": "value_held_in",
     "wordFields": "fields_of_word",
 }
+# What is declared inside another declaration, or in a mutual block.
+INSIDE = """
+atA atRoot belowA bodyFrom doStmt doStmts elseBy evOne evSecond evTwo nearLevel oneTurn pkgOf ranOf readElse readIf
+readOne readTwo spellStmt spellStmts stepDo stmtAt stmtBy turnsBy whileDo
+""".split()
 # A lemma's name that is taken by another stays as it is.
 STAYS = {"is-set"}
 PLACES = ("crates", "wrong", "docs", "README.md", "bindings/lists")
@@ -99,7 +104,7 @@ def declared():
             field = re.match(r"  +(?:pub )?([^\s:(){}]+)((?: [^\s:(){}]+)*) : ", line)
             if block and field:
                 inner.update(field.group(1).split() + field.group(2).split())
-    return tops, inner
+    return tops | set(INSIDE), inner
 
 
 def is_camel(part):

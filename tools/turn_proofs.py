@@ -130,7 +130,7 @@ def steps(t):
 def inlined(term, fields):
     """Writes out each let of a step whose fields have names of their own today."""
     while True:
-        for m in re.finditer(r"let (\S+) = ((\w+)((?:\.before)*)\.([\w'-]+)) in\s+", term):
+        for m in re.finditer(r"let (\S+) = ((\w+)((?:\.before)*)\.([\w'-]+)(?:\.[\w'-]+)*) in\s+", term):
             if m.group(1) != m.group(3) and (flat(m.group(5)) in {s for s, _ in fields} or re.search(r"(?<![\w.'-])" + re.escape(m.group(1)) + r"\.(new|auto)\.", term)):
                 rest = term[m.end():]
                 rest = re.sub(r"(?<![\w.'-])" + re.escape(m.group(1)) + r"(?=[.\s)])", m.group(2), rest)
@@ -276,7 +276,7 @@ def turn(folder):
             if not m:
                 raise Said(f"an answer that is no λ: {a[:50]}")
             params, term = m.group(1).split(), m.group(2).strip()
-            extra, notes = [], []
+            extra, notes = [l for l in final.split("\n") if l.startswith("unfolding")], []
         else:
             if a not in by:
                 raise Said(f"no declaration {a}")

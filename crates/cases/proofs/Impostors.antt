@@ -22,10 +22,10 @@ use Rattle.grammar.specs.declared.CheckAnswer.{CheckAnswer}
 use Rattle.statement.specs.declared.RunAnswer.{RunAnswer}
 use Rattle.grammar.specs.Tree.{Stmts}
 use Rattle.grammar.specs.Opcode.{look, term_op_at, stmt_op_at}
-use Rattle.grammar.specs.Reader.{readOne, readTwo, read_term, read_package, read_head, readElse, readIf, list_by, read_stmt, read_block}
+use Rattle.grammar.specs.Reader.{read_one, read_two, read_term, read_package, read_head, read_else, read_if, list_by, read_stmt, read_block}
 use Rattle.statement.specs.declared.frame.Width.TheVariants.{Bits64}
 use Rattle.statement.specs.Frames.{fresh}
-use Rattle.statement.specs.Meaning.{eval, turns, doStmt, doStmts}
+use Rattle.statement.specs.Meaning.{eval, turns, do_stmt, do_stmts}
 use Rattle.grammar.specs.Promise.{Checked, check_said}
 use Rattle.statement.specs.Promise.{HasRun, run_said}
 use Rattle.grammar.proofs.Theorems.{derives-what-reads}
@@ -54,8 +54,8 @@ run-shows s budget r h = go (read_block s) refl
 pub no-while-counts : (r : RunAnswer)
     → HasRun (0x70 ∷ 0x0A ∷ 0x03 ∷ 0x60 ∷ 0xA2 ∷ 0x04 ∷ 0x60 ∷ 0x76 ∷ 0x60 ∷ 0xA4 ∷ 0x60 ∷ []) (fresh Bits64) 100 r
     → run_shown (run_said r) ≡ gives (1 ∷ 0 ∷ 10 ∷ [])
-unfolding little spelt raw_length_answer from_raw pkg_length_answer look term_op_at stmt_op_at readOne readTwo read_term package_in read_package read_head readElse readIf list_by read_stmt read_block
-    fresh eval turns doStmt doStmts
+unfolding little spelt raw_length_answer from_raw pkg_length_answer look term_op_at stmt_op_at read_one read_two read_term package_in read_package read_head read_else read_if list_by read_stmt read_block
+    fresh eval turns do_stmt do_stmts
 no-while-counts r h = run-shows _ 100 r h
 
 -- a search that returns one handle, or refuses, or invents scopes asked: here it is handle 1, and 3 asked

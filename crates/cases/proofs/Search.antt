@@ -44,7 +44,7 @@ abbrev x : ℕ → List Binding
 x h = record { segment = number 0x58 0x5F 0x5F 0x5F; handle = h } ∷ []
 
 abbrev tree : List Binding → List Binding → Forest → List ℕ → Tree
-tree atRoot atA belowA objects = record { levels = level 0 0 atRoot (level (number 0x41 0x5F 0x5F 0x5F) 0 atA belowA none) none; objects = objects }
+tree at_root at_a below_a objects = record { levels = level 0 0 at_root (level (number 0x41 0x5F 0x5F 0x5F) 0 at_a below_a none) none; objects = objects }
 
 abbrev b : Forest
 b = level (number 0x42 0x5F 0x5F 0x5F) 0 [] none none

@@ -11,7 +11,7 @@ use Rattle.grammar.specs.declared.opcode.Dest.TheVariants.{Nowhere, ToCell, ToTa
 use Rattle.grammar.specs.Opcode.{is_cell_byte}
 use Rattle.grammar.specs.Tree.{Place, Target, nowhere, to, Term, Stmt, Stmts}
 use Rattle.grammar.specs.Grammar.{depth_limit}
-use Rattle.grammar.specs.Reader.{reads, then_read, read_place, read_dest, Operand, Operands, readOne, readTwo, read_term, read_package, Head, read_head, elseBy, readElse, readIf, read_list}
+use Rattle.grammar.specs.Reader.{reads, then_read, read_place, read_dest, Operand, Operands, read_one, read_two, read_term, read_package, Head, read_head, else_by, read_else, read_if, read_list}
 use Rattle.grammar.proofs.Answers.{never, then_by, and-by, pick-ok, Takes}
 use Rattle.grammar.proofs.Terms.{term-sound, term-complete}
 use Rattle.grammar.proofs.Statements.{lists-sound, lists-complete}
@@ -43,18 +43,18 @@ term-any l p q s t k e =
     rw (take-append-drop k s, n) at f
 
 module _ (l : ℕ) (d : Dest) where
-  pub one-any : (p q : ℕ) (s : List ℕ) (x : Operand) (k : ℕ) → readOne (read_term l) d p s ≡ reads x k → readOne (read_term l) d q s ≡ reads x k
-  unfolding readOne
+  pub one-any : (p q : ℕ) (s : List ℕ) (x : Operand) (k : ℕ) → read_one (read_term l) d p s ≡ reads x k → read_one (read_term l) d q s ≡ reads x k
+  unfolding read_one
   one-any p q s x k e =
       then_by (read_term l p s) _ e λ t i e₁ f₁.
       then_by (read_dest d (p + i) (drop i s)) _ f₁ λ y j e₂ f₂.
       rw (term-any l p q s t i e₁, dest-any d (p + i) (q + i) (drop i s) y j e₂) f₂
 
-  pub two-any : (p q : ℕ) (s : List ℕ) (x : Operands) (k : ℕ) → readTwo (read_term l) d p s ≡ reads x k → readTwo (read_term l) d q s ≡ reads x k
-  unfolding readTwo
+  pub two-any : (p q : ℕ) (s : List ℕ) (x : Operands) (k : ℕ) → read_two (read_term l) d p s ≡ reads x k → read_two (read_term l) d q s ≡ reads x k
+  unfolding read_two
   two-any p q s x k e =
       then_by (read_term l p s) _ e λ t i e₁ f₁.
-      then_by (readOne (read_term l) d (p + i) (drop i s)) _ f₁ λ y j e₂ f₂.
+      then_by (read_one (read_term l) d (p + i) (drop i s)) _ f₁ λ y j e₂ f₂.
       rw (term-any l p q s t i e₁, one-any (p + i) (q + i) (drop i s) y j e₂) f₂
 
 pub list_any : (l p q : ℕ) (s : List ℕ) (xs : Stmts) (k : ℕ) → read_list l p s ≡ reads xs k → read_list l q s ≡ reads xs k
@@ -65,12 +65,12 @@ list_any l p q s xs k e =
     let n : length s ≡ k = cc in
     rw n at g
 
-pub else-any : (l p q : ℕ) (s : List ℕ) (xs : Stmts) (k : ℕ) → readElse (read_list l) p s ≡ reads xs k → readElse (read_list l) q s ≡ reads xs k
-unfolding readElse
+pub else-any : (l p q : ℕ) (s : List ℕ) (xs : Stmts) (k : ℕ) → read_else (read_list l) p s ≡ reads xs k → read_else (read_list l) q s ≡ reads xs k
+unfolding read_else
 else-any l p q [] xs k e = e
 else-any l p q (b ∷ s) xs k e = go (eqb b 0xA1) e
   where
-    go : (t : Bool) → elseBy (read_list l) (suc p) s t ≡ reads xs k → elseBy (read_list l) (suc q) s t ≡ reads xs k
+    go : (t : Bool) → else_by (read_list l) (suc p) s t ≡ reads xs k → else_by (read_list l) (suc q) s t ≡ reads xs k
     go false f = f
     go true f =
         and-by (read_package (suc p) s) _ f λ w e₁ f₁.
@@ -91,9 +91,9 @@ head-any l p q s h k e =
       list_any l (p + (w.used + i)) (q + (w.used + i)) (take (w.raw - (w.used + i)) (drop (w.used + i) s)) xs j e₄,
     ) f₄
 
-pub if-any : (l p q : ℕ) (s : List ℕ) (x : Stmt) (k : ℕ) → readIf (read_list l) p s ≡ reads x k → readIf (read_list l) q s ≡ reads x k
-unfolding readIf
+pub if-any : (l p q : ℕ) (s : List ℕ) (x : Stmt) (k : ℕ) → read_if (read_list l) p s ≡ reads x k → read_if (read_list l) q s ≡ reads x k
+unfolding read_if
 if-any l p q s x k e =
     then_by (read_head (read_list l) p s) _ e λ h n e₁ f₁.
-    then_by (readElse (read_list l) (p + n) (drop n s)) _ f₁ λ ys j e₂ f₂.
+    then_by (read_else (read_list l) (p + n) (drop n s)) _ f₁ λ ys j e₂ f₂.
     rw (head-any l p q s h n e₁, else-any l (p + n) (q + n) (drop n s) ys j e₂) f₂

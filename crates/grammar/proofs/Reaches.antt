@@ -18,7 +18,7 @@ use Rattle.grammar.specs.declared.opcode.StmtOp.TheVariants.{Expr}
 use Rattle.grammar.specs.Opcode.{is_cell_byte, term_op_at, stmt_op_at}
 use Rattle.grammar.specs.Tree.{to, Term, Stmt, expr, Stmts, cons}
 use Rattle.grammar.specs.Grammar.{depth_limit}
-use Rattle.grammar.specs.Reader.{Read, took, reads, then_read, read_bytes, read_place, read_dest, operand, before, readOne, readTwo, term_by, read_term, read_package, Head, head, if_of, read_head, readElse, readIf, stmtBy, list_by, read_stmt, read_list}
+use Rattle.grammar.specs.Reader.{Read, took, reads, then_read, read_bytes, read_place, read_dest, operand, before, read_one, read_two, term_by, read_term, read_package, Head, head, if_of, read_head, read_else, read_if, stmt_by, list_by, read_stmt, read_list}
 use Rattle.grammar.specs.declared.term.Reach.{Reach}
 use Rattle.grammar.specs.declared.read.Package.{Package}
 use Rattle.grammar.specs.Said.{«NEXT», refusal_of, reached, packed, up_to}
@@ -164,31 +164,31 @@ term_in l p at s b h e =
     (omega arith, omega (arith, length-drop at s))
 
 module _ (l b at : ℕ) (s : List ℕ) (d : Dest) where
-  pub one-no-term : (c p : ℕ) → refuses c p ≡ up_to at (read_term l (b + at) (drop at s)) → refuses c p ≡ up_to at (readOne (read_term l) d (b + at) (drop at s))
-  unfolding readOne
+  pub one-no-term : (c p : ℕ) → refuses c p ≡ up_to at (read_term l (b + at) (drop at s)) → refuses c p ≡ up_to at (read_one (read_term l) d (b + at) (drop at s))
+  unfolding read_one
   one-no-term c p e = rw (ans-no at (read_term l (b + at) (drop at s)) c p e)
 
   pub one-dest : (m : ℕ) → gives m ≡ up_to at (read_term l (b + at) (drop at s)) → (a : Answer ℕ) → a ≡ up_to m (read_dest d (b + m) (drop m s)) →
-      a ≡ up_to at (readOne (read_term l) d (b + at) (drop at s))
-  unfolding readOne
+      a ≡ up_to at (read_one (read_term l) d (b + at) (drop at s))
+  unfolding read_one
   one-dest m e a f =
       ans-ok at (read_term l (b + at) (drop at s)) m e λ t k g q.
       let q₁ : b + at + k ≡ b + m = omega arith in
       let q₂ : at + k ≡ m = omega arith in
       rw (g, q₁, drop-drop k at s, q₂) (f ∙ sym (after at (read_dest d (b + m) (drop m s)) (operand t) k ∙ ap (λ (z : ℕ). up_to z (read_dest d (b + m) (drop m s))) q₂))
 
-  pub two-no-term : (c p : ℕ) → refuses c p ≡ up_to at (read_term l (b + at) (drop at s)) → refuses c p ≡ up_to at (readTwo (read_term l) d (b + at) (drop at s))
-  unfolding readTwo
+  pub two-no-term : (c p : ℕ) → refuses c p ≡ up_to at (read_term l (b + at) (drop at s)) → refuses c p ≡ up_to at (read_two (read_term l) d (b + at) (drop at s))
+  unfolding read_two
   two-no-term c p e = rw (ans-no at (read_term l (b + at) (drop at s)) c p e)
 
-  pub two-one : (m : ℕ) → gives m ≡ up_to at (read_term l (b + at) (drop at s)) → (a : Answer ℕ) → a ≡ up_to m (readOne (read_term l) d (b + m) (drop m s)) →
-      a ≡ up_to at (readTwo (read_term l) d (b + at) (drop at s))
-  unfolding readTwo
+  pub two-one : (m : ℕ) → gives m ≡ up_to at (read_term l (b + at) (drop at s)) → (a : Answer ℕ) → a ≡ up_to m (read_one (read_term l) d (b + m) (drop m s)) →
+      a ≡ up_to at (read_two (read_term l) d (b + at) (drop at s))
+  unfolding read_two
   two-one m e a f =
       ans-ok at (read_term l (b + at) (drop at s)) m e λ t k g q.
       let q₁ : b + at + k ≡ b + m = omega arith in
       let q₂ : at + k ≡ m = omega arith in
-      rw (g, q₁, drop-drop k at s, q₂) (f ∙ sym (after at (readOne (read_term l) d (b + m) (drop m s)) (before t) k ∙ ap (λ (z : ℕ). up_to z (readOne (read_term l) d (b + m) (drop m s))) q₂))
+      rw (g, q₁, drop-drop k at s, q₂) (f ∙ sym (after at (read_one (read_term l) d (b + m) (drop m s)) (before t) k ∙ ap (λ (z : ℕ). up_to z (read_one (read_term l) d (b + m) (drop m s))) q₂))
 
 -- ## Lists
 
@@ -245,21 +245,21 @@ unfolding read_stmt
 stmt-deep l b at s e = rw e
 
 pub stmt-is-by : (l p at : ℕ) (s : List ℕ) (r o : StmtOp) → 0 < l → at < length s → r ≡ stmt_op_at (get_or s at 0) → r ≡ o →
-    read_stmt l p (drop at s) ≡ stmtBy (read_list (l - 1)) (get_or s at 0) p (drop (at + 1) s) o
+    read_stmt l p (drop at s) ≡ stmt_by (read_list (l - 1)) (get_or s at 0) p (drop (at + 1) s) o
 unfolding read_stmt
 stmt-is-by l p at s r o h lt e f = go l h
   where
-    go : (l : ℕ) → 0 < l → read_stmt l p (drop at s) ≡ stmtBy (read_list (l - 1)) (get_or s at 0) p (drop (at + 1) s) o
+    go : (l : ℕ) → 0 < l → read_stmt l p (drop at s) ≡ stmt_by (read_list (l - 1)) (get_or s at 0) p (drop (at + 1) s) o
     go zero h = absurd (omega arith)
     go (suc l) h = let q : suc l - 1 ≡ l = omega arith in rw (here s at lt, ← e, f, q)
 
 module _ (l b at : ℕ) (s : List ℕ) (h : 0 < l) (lt : at < length s) (r : StmtOp) (e : r ≡ stmt_op_at (get_or s at 0)) where
-  pub stmt-arm : (o : StmtOp) (a : Answer ℕ) → r ≡ o → a ≡ up_to at (stmtBy (read_list (l - 1)) (get_or s at 0) (b + at) (drop (at + 1) s) o) → a ≡ up_to at (read_stmt l (b + at) (drop at s))
+  pub stmt-arm : (o : StmtOp) (a : Answer ℕ) → r ≡ o → a ≡ up_to at (stmt_by (read_list (l - 1)) (get_or s at 0) (b + at) (drop (at + 1) s) o) → a ≡ up_to at (read_stmt l (b + at) (drop at s))
   stmt-arm o a f g = g ∙ sym (ap (up_to at) (stmt-is-by l (b + at) at s r o h lt e f))
 
 -- an expression starts with its own opcode
 pub expr-here : (p at : ℕ) (s : List ℕ) → at < length s → (list : ℕ → List ℕ → Answer (Read Stmts)) (a : Answer ℕ) → a ≡ up_to at (read_term depth_limit p (drop at s)) →
-    a ≡ up_to at (stmtBy list (get_or s at 0) p (drop (at + 1) s) Expr)
+    a ≡ up_to at (stmt_by list (get_or s at 0) p (drop (at + 1) s) Expr)
 expr-here p at s lt list a e = (rw (here s at lt) at e) ∙ sym (same-reach at (read_term depth_limit p (get_or s at 0 ∷ drop (at + 1) s)) expr)
 
 -- ## Packages and bodies
@@ -320,7 +320,7 @@ module _ (l b at : ℕ) (s : List ℕ) where
       head-body le z e = ans-ok 0 body z e λ xs i g h. from-body le (gives (at + n)) (λ x. rw g)
 
   abbrev read-if : Answer (Read Stmt)
-  read-if = readIf (read_list l) (b + at) (drop at s)
+  read-if = read_if (read_list l) (b + at) (drop at s)
 
   pub head_in : (e : ℕ) → at ≤ length s → gives e ≡ up_to at read-head → (at < e) × (e ≤ length s)
   head_in e le f =
@@ -331,38 +331,38 @@ module _ (l b at : ℕ) (s : List ℕ) where
       (omega arith, omega (arith, length-drop at s))
 
   pub if-no-head : (c p : ℕ) → refuses c p ≡ up_to at read-head → refuses c p ≡ up_to at read-if
-  unfolding readIf
+  unfolding read_if
   if-no-head c p f = rw (ans-no at read-head c p f)
 
-  pub if-else : (e : ℕ) → gives e ≡ up_to at read-head → (a : Answer ℕ) → a ≡ up_to e (readElse (read_list l) (b + e) (drop e s)) → a ≡ up_to at read-if
-  unfolding readIf
+  pub if-else : (e : ℕ) → gives e ≡ up_to at read-head → (a : Answer ℕ) → a ≡ up_to e (read_else (read_list l) (b + e) (drop e s)) → a ≡ up_to at read-if
+  unfolding read_if
   if-else e f a ea =
       ans-ok at read-head e f λ x n g q.
       let q₁ : b + at + n ≡ b + e = omega arith in
       let q₂ : at + n ≡ e = omega arith in
-      rw (g, q₁, drop-drop n at s, q₂) (ea ∙ sym (after at (readElse (read_list l) (b + e) (drop e s)) (if_of x) n ∙ ap (λ (z : ℕ). up_to z (readElse (read_list l) (b + e) (drop e s))) q₂))
+      rw (g, q₁, drop-drop n at s, q₂) (ea ∙ sym (after at (read_else (read_list l) (b + e) (drop e s)) (if_of x) n ∙ ap (λ (z : ℕ). up_to z (read_else (read_list l) (b + e) (drop e s))) q₂))
 
 -- ## An else
 
 module _ (l p at : ℕ) (s : List ℕ) where
-  pub else-end : length s ≤ at → gives at ≡ up_to at (readElse (read_list l) p (drop at s))
-  unfolding readElse
+  pub else-end : length s ≤ at → gives at ≡ up_to at (read_else (read_list l) p (drop at s))
+  unfolding read_else
   else-end h = rw (drop_of_length-le s h) (ap gives (omega arith))
 
-  pub else-other : at < length s → (get_or s at 0 ≡ 0xA1 → ⊥) → gives at ≡ up_to at (readElse (read_list l) p (drop at s))
-  unfolding readElse
+  pub else-other : at < length s → (get_or s at 0 ≡ 0xA1 → ⊥) → gives at ≡ up_to at (read_else (read_list l) p (drop at s))
+  unfolding read_else
   else-other h ne = rw (here s at h, ne_eqb (get_or s at 0) 0xA1 ne) (ap gives (omega arith))
 
 module _ (l b at : ℕ) (s : List ℕ) where
   abbrev read-else : Answer (Read Stmts)
-  read-else = readElse (read_list l) (b + at) (drop at s)
+  read-else = read_else (read_list l) (b + at) (drop at s)
 
   module _ (lt : at < length s) (eq : get_or s at 0 ≡ 0xA1) where
     suc-place : b + (at + 1) ≡ suc (b + at)
     suc-place = omega arith
 
     pub else-no-package : (c p : ℕ) → refuses c p ≡ read_package (b + (at + 1)) (drop (at + 1) s) → refuses c p ≡ up_to at read-else
-    unfolding readElse
+    unfolding read_else
     else-no-package c p e = rw (here s at lt, eq, ← suc-place, ← e)
 
     module _ (n u : ℕ) (ew : gives (record { raw = n; used = u }) ≡ read_package (b + (at + 1)) (drop (at + 1) s)) where
@@ -376,13 +376,13 @@ module _ (l b at : ℕ) (s : List ℕ) where
           rw (q₁, q₂, drop-drop u (at + 1) s)
 
       pub else-no-body : (c p : ℕ) → refuses c p ≡ up_to 0 else-part → refuses c p ≡ up_to at read-else
-      unfolding readElse
+      unfolding read_else
       else-no-body c p e =
           let g = ans-no 0 else-part c p e in
           rw (here s at lt, eq, ← suc-place, ← ew, same_body, g)
 
       pub else-body : (z : ℕ) → gives z ≡ up_to 0 else-part → gives (at + 1 + n) ≡ up_to at read-else
-      unfolding readElse
+      unfolding read_else
       else-body z e =
           ans-ok 0 else-part z e λ es k g h.
           rw (here s at lt, eq, ← suc-place, ← ew, same_body, g) (ap gives (omega arith))

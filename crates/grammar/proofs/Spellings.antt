@@ -219,16 +219,16 @@ plain_op BreakPoint = refl
 plain_op Noop = refl
 
 unfoldable mutual
-  pub spellStmt : Stmt → List ℕ
-  spellStmt (plain o) = plain_byte o ∷ []
-  spellStmt (return a) = 0xA4 ∷ spell_term a
-  spellStmt (if_else a xs ys) = 0xA0 ∷ packed (spell_term a ++ spellStmts xs) ++ (0xA1 ∷ packed (spellStmts ys))
-  spellStmt (while a xs) = 0xA2 ∷ packed (spell_term a ++ spellStmts xs)
-  spellStmt (expr a) = spell_term a
+  pub spell_stmt : Stmt → List ℕ
+  spell_stmt (plain o) = plain_byte o ∷ []
+  spell_stmt (return a) = 0xA4 ∷ spell_term a
+  spell_stmt (if_else a xs ys) = 0xA0 ∷ packed (spell_term a ++ spell_stmts xs) ++ (0xA1 ∷ packed (spell_stmts ys))
+  spell_stmt (while a xs) = 0xA2 ∷ packed (spell_term a ++ spell_stmts xs)
+  spell_stmt (expr a) = spell_term a
 
-  pub spellStmts : Stmts → List ℕ
-  spellStmts nil = []
-  spellStmts (cons x xs) = spellStmt x ++ spellStmts xs
+  pub spell_stmts : Stmts → List ℕ
+  spell_stmts nil = []
+  spell_stmts (cons x xs) = spell_stmt x ++ spell_stmts xs
 
 -- a term that may stand as a statement
 unfoldable pub FitsExpr : Term → Type 0
@@ -264,37 +264,37 @@ expr-spelt l (one o a x) h = d-expr (one-op o).1 (term-spelt depth_limit (one o 
 expr-spelt l (two o a b x) h = d-expr (two-op o).1 (term-spelt depth_limit (two o a b x) h)
 
 mutual
-  unfolding spellStmt FitsStmt stmt_op_at look
+  unfolding spell_stmt FitsStmt stmt_op_at look
 
-  stmt-spelt : (x : Stmt) (l : ℕ) → FitsStmt x l → length (spellStmt x) ≤ block_limit → DStmt l x (spellStmt x)
+  stmt-spelt : (x : Stmt) (l : ℕ) → FitsStmt x l → length (spell_stmt x) ≤ block_limit → DStmt l x (spell_stmt x)
   stmt-spelt (plain o) zero h n = absurd h
   stmt-spelt (plain o) (suc l) h n = d-plain (plain_op o)
   stmt-spelt (return a) zero h n = absurd h
   stmt-spelt (return a) (suc l) h n = d-return refl (term-spelt depth_limit a h)
   stmt-spelt (if_else a xs ys) zero h n = absurd h
   stmt-spelt (if_else a xs ys) (suc l) h n =
-      let c = spell_term a ++ spellStmts xs in
-      let d = spellStmts ys in
+      let c = spell_term a ++ spell_stmts xs in
+      let d = spell_stmts ys in
       let m₁ : length (packed c ++ (0xA1 ∷ packed d)) ≡ length (packed c) + suc (length (packed d)) = length-append (packed c) (0xA1 ∷ packed d) in
       let m₂ : length (packed c) ≡ 4 + length c = packed-length c in
       let m₃ : length (packed d) ≡ 4 + length d = packed-length d in
-      let m₄ : length c ≡ length (spell_term a) + length (spellStmts xs) = length-append (spell_term a) (spellStmts xs) in
+      let m₄ : length c ≡ length (spell_term a) + length (spell_stmts xs) = length-append (spell_term a) (spell_stmts xs) in
       d-if refl (d-head (term-spelt depth_limit a h.0) (list-spelt xs l h.1 (omega arith)) (package-spelt c (omega arith)))
       (d-else (list-spelt ys l h.2 (omega arith)) (package-spelt d (omega arith)))
   stmt-spelt (while a xs) zero h n = absurd h
   stmt-spelt (while a xs) (suc l) h n =
-      let c = spell_term a ++ spellStmts xs in
+      let c = spell_term a ++ spell_stmts xs in
       let m₂ : length (packed c) ≡ 4 + length c = packed-length c in
-      let m₄ : length c ≡ length (spell_term a) + length (spellStmts xs) = length-append (spell_term a) (spellStmts xs) in
+      let m₄ : length c ≡ length (spell_term a) + length (spell_stmts xs) = length-append (spell_term a) (spell_stmts xs) in
       d-while refl (d-head (term-spelt depth_limit a h.0) (list-spelt xs l h.1 (omega arith)) (package-spelt c (omega arith)))
   stmt-spelt (expr a) zero h n = absurd h
   stmt-spelt (expr a) (suc l) h n = expr-spelt l a h
 
-  list-spelt : (xs : Stmts) (l : ℕ) → FitsStmts xs l → length (spellStmts xs) ≤ block_limit → DStmts l xs (spellStmts xs)
+  list-spelt : (xs : Stmts) (l : ℕ) → FitsStmts xs l → length (spell_stmts xs) ≤ block_limit → DStmts l xs (spell_stmts xs)
   list-spelt nil l h n = d-nil
   list-spelt (cons x xs) l h n =
-      let m : length (spellStmt x ++ spellStmts xs) ≡ length (spellStmt x) + length (spellStmts xs) = length-append (spellStmt x) (spellStmts xs) in
+      let m : length (spell_stmt x ++ spell_stmts xs) ≡ length (spell_stmt x) + length (spell_stmts xs) = length-append (spell_stmt x) (spell_stmts xs) in
       d-cons (stmt-spelt x l h.0 (omega arith)) (list-spelt xs l h.1 (omega arith))
 
-pub tree-has-spelling : (t : Stmts) → FitsStmts t depth_limit → length (spellStmts t) ≤ block_limit → Derives (spellStmts t) t
+pub tree-has-spelling : (t : Stmts) → FitsStmts t depth_limit → length (spell_stmts t) ≤ block_limit → Derives (spell_stmts t) t
 tree-has-spelling t h n = record { short = n; derived = list-spelt t depth_limit h n }

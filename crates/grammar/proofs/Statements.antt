@@ -15,7 +15,7 @@ use Rattle.grammar.specs.declared.opcode.StmtOp.TheVariants.{Simple, Return, If,
 use Rattle.grammar.specs.Opcode.{term_op_at, stmt_op_at, look}
 use Rattle.grammar.specs.Tree.{Term, Stmt, if_else, expr, Stmts, nil, cons}
 use Rattle.grammar.specs.Grammar.{depth_limit, DTerm, DStmt, d-plain, d-return, d-if, d-while, d-expr, DHead, d-head, DElse, d-none, d-else, DStmts, d-nil, d-cons}
-use Rattle.grammar.specs.Reader.{Read, reads, read_term, read_package, Head, head, if_of, while_of, read_head, elseBy, readElse, readIf, stmtBy, list_by, read_stmt, read_list}
+use Rattle.grammar.specs.Reader.{Read, reads, read_term, read_package, Head, head, if_of, while_of, read_head, else_by, read_else, read_if, stmt_by, list_by, read_stmt, read_list}
 use Rattle.grammar.proofs.Answers.{never, then_by, and-by, pick-ok, Follows, Takes, as-follows, as-takes}
 use Rattle.pkg_length.proofs.Packages.{Packs}
 use Rattle.pkg_length.specs.Package.{Package}
@@ -51,7 +51,7 @@ list-sound st l h zero p (b ∷ s) xs k e =
     (d-cons t.derives (rw (drop-pred b s i t.some) rest)))
 
 module _ (list : ℕ → List ℕ → Answer (Read Stmts)) (l : ℕ) (hb : ListSound list l) where
-  else-by : (p : ℕ) (s : List ℕ) (ys : Stmts) (j b : ℕ) (t : Bool) → eqb b 0xA1 ≡ t → elseBy list p s t ≡ reads ys j → Follows (DElse l ys) (b ∷ s) j
+  else-by : (p : ℕ) (s : List ℕ) (ys : Stmts) (j b : ℕ) (t : Bool) → eqb b 0xA1 ≡ t → else_by list p s t ≡ reads ys j → Follows (DElse l ys) (b ∷ s) j
   else-by p s ys j b false et e = as-follows (DElse l) e (record { fits = omega arith; derives = d-none })
   else-by p s ys j b true et e =
       and-by (read_package p s) _ e λ w e₁ f₁.
@@ -60,8 +60,8 @@ module _ (list : ℕ → List ℕ → Answer (Read Stmts)) (l : ℕ) (hb : ListS
       let d = hb (p + w.used) (take (w.raw - w.used) (drop w.used s)) es i e₂ in
       as-follows (DElse l) f₂ (record { fits = omega (arith, k.within); derives = rw (eqb-true b 0xA1 et) (d-else d k.is) })
 
-  else-sound : (p : ℕ) (s : List ℕ) (ys : Stmts) (j : ℕ) → readElse list p s ≡ reads ys j → Follows (DElse l ys) s j
-  unfolding readElse
+  else-sound : (p : ℕ) (s : List ℕ) (ys : Stmts) (j : ℕ) → read_else list p s ≡ reads ys j → Follows (DElse l ys) s j
+  unfolding read_else
   else-sound p [] ys j e = as-follows (DElse l) e (record { fits = omega arith; derives = d-none })
   else-sound p (b ∷ s) ys j e = else-by (suc p) s ys j b (eqb b 0xA1) refl e
 
@@ -102,11 +102,11 @@ module _ (list : ℕ → List ℕ → Answer (Read Stmts)) (l : ℕ) (hb : ListS
         derives = rw (take-add n j s) (if-bytes w.derives z.derives);
       }
 
-  if-sound : (p : ℕ) (s : List ℕ) (x : Stmt) (k : ℕ) → readIf list p s ≡ reads x k → Takes (IfBytes x) s k
-  unfolding readIf
+  if-sound : (p : ℕ) (s : List ℕ) (x : Stmt) (k : ℕ) → read_if list p s ≡ reads x k → Takes (IfBytes x) s k
+  unfolding read_if
   if-sound p s x k e =
       then_by (read_head list p s) _ e λ h n e₁ f₁.
-      then_by (readElse list (p + n) (drop n s)) _ f₁ λ ys j e₂ f₂.
+      then_by (read_else list (p + n) (drop n s)) _ f₁ λ ys j e₂ f₂.
       as-takes IfBytes f₂ (if-takes h n j s ys (head-sound p s h n e₁) (else-sound (p + n) (drop n s) ys j e₂))
 
   if-stmt : {b : ℕ} {x : Stmt} {w : List ℕ} → stmt_op_at b ≡ If → IfBytes x w → DStmt (suc l) x (b ∷ w)
@@ -119,14 +119,14 @@ module _ (list : ℕ → List ℕ → Answer (Read Stmts)) (l : ℕ) (hb : ListS
   expr-takes b s u zero o h = absurd (let z : 0 < 0 = h.some in omega arith)
   expr-takes b s u (suc j) o h = record { some = h.some; fits = h.fits; derives = d-expr o h.derives }
 
-  stmt-by : (p : ℕ) (s : List ℕ) (x : Stmt) (k b : ℕ) (o : StmtOp) → stmt_op_at b ≡ o → stmtBy list b p s o ≡ reads x k → Takes (DStmt (suc l) x) (b ∷ s) k
+  stmt-by : (p : ℕ) (s : List ℕ) (x : Stmt) (k b : ℕ) (o : StmtOp) → stmt_op_at b ≡ o → stmt_by list b p s o ≡ reads x k → Takes (DStmt (suc l) x) (b ∷ s) k
   stmt-by p s x k b (Simple y) o e = as-takes (DStmt (suc l)) e (record { some = omega arith; fits = omega arith; derives = d-plain o })
   stmt-by p s x k b Return o e =
       then_by (read_term depth_limit (suc p) s) _ e λ t j e₁ e₂.
       let h : Takes (DTerm depth_limit t) s j = term-sound depth_limit (suc p) s t j e₁ in
       as-takes (DStmt (suc l)) e₂ (record { some = omega arith; fits = omega (arith, h.fits); derives = d-return o h.derives })
   stmt-by p s x k b If o e =
-      then_by (readIf list (suc p) s) _ e λ y j e₁ e₂.
+      then_by (read_if list (suc p) s) _ e λ y j e₁ e₂.
       let h : Takes (IfBytes y) s j = if-sound (suc p) s y j e₁ in
       as-takes (DStmt (suc l)) e₂ (record { some = omega arith; fits = omega (arith, h.fits); derives = if-stmt o h.derives })
   stmt-by p s x k b While o e =
@@ -215,11 +215,11 @@ unfolding read_head
 head_step list p s w k q t xs e₁ e₂ le e₃ = rw (e₁, e₂, le-leb _ _ le, e₃)
 
 else-step : (list : ℕ → List ℕ → Answer (Read Stmts)) (p : ℕ) (s : List ℕ) (w : Raw) (q : ℕ) (xs : Stmts) →
-    read_package p s ≡ gives w → list (p + w.used) (take (w.raw - w.used) (drop w.used s)) ≡ reads xs q → elseBy list p s true ≡ reads xs (suc w.raw)
+    read_package p s ≡ gives w → list (p + w.used) (take (w.raw - w.used) (drop w.used s)) ≡ reads xs q → else_by list p s true ≡ reads xs (suc w.raw)
 else-step list p s w q xs e₁ e₂ = rw (e₁, e₂)
 
-else-none : (list : ℕ → List ℕ → Answer (Read Stmts)) (p : ℕ) (r : List ℕ) → starts-else r ≡ false → readElse list p r ≡ reads nil 0
-unfolding starts-else readElse
+else-none : (list : ℕ → List ℕ → Answer (Read Stmts)) (p : ℕ) (r : List ℕ) → starts-else r ≡ false → read_else list p r ≡ reads nil 0
+unfolding starts-else read_else
 else-none list p [] e = refl
 else-none list p (b ∷ s) e = rw e
 
@@ -236,8 +236,8 @@ list-complete l h _ _ (d-cons {x = x} {xs = xs} {s = s} {b = b} d ds) p =
     list-step (read_stmt l) p s b x xs (stmt-some d) (h x s d p b (stmts-starts ds)) (list-complete l h xs b ds (p + length s))
 
 else-complete : (l : ℕ) → ListComplete l → {x : Stmts} {s : List ℕ} → DElse l x s → (p : ℕ) (r : List ℕ) → starts-else r ≡ false →
-    readElse (read_list l) p (s ++ r) ≡ reads x (length s)
-unfolding readElse
+    read_else (read_list l) p (s ++ r) ≡ reads x (length s)
+unfolding read_else
 else-complete l h d-none p r e = else-none (read_list l) p r e
 else-complete l h (d-else {xs = xs} {b = b} {w = v} d pk) p r e =
     package-complete pk (suc p) r λ w e₁ e₂ e₃ e₄.
@@ -260,7 +260,7 @@ head-complete l h (d-head {t = t} {xs = xs} {s = s} {b = b} {w = v} dt db pk) p 
     ∙ rw e₂
 
 stmt-complete-suc : (l : ℕ) → ListComplete l → StmtComplete (suc l)
-unfolding read_stmt readIf
+unfolding read_stmt read_if
 stmt-complete-suc l h _ _ (d-plain o) p r e = rw o
 stmt-complete-suc l h _ _ (d-return o d) p r e = rw (o, term-complete d (suc p) r)
 stmt-complete-suc l h _ _ (d-if {w = w} {e = v} o d de) p r e =

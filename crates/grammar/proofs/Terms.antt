@@ -17,7 +17,7 @@ use Rattle.grammar.specs.declared.opcode.TermOp.TheVariants.{Constant, Bytes, Ce
 use Rattle.grammar.specs.Opcode.{is_cell_byte, term_op_at}
 use Rattle.grammar.specs.Tree.{Place, cell, Target, nowhere, to, Term, const, read}
 use Rattle.grammar.specs.Grammar.{DPlace, d_cell, DDest, d_nowhere, d_to_cell, d_null, d_target, DTerm, d_constant, d_bytes, d_read, d_step, d_one, d_two}
-use Rattle.grammar.specs.Reader.{Read, reads, then_read, read_bytes, read_place, read_target, read_dest, Operand, operand, Operands, operands, before, readOne, readTwo, one_of, two_of, term_by, read_term}
+use Rattle.grammar.specs.Reader.{Read, reads, then_read, read_bytes, read_place, read_target, read_dest, Operand, operand, Operands, operands, before, read_one, read_two, one_of, two_of, term_by, read_term}
 use Rattle.grammar.proofs.Answers.{never, then_by, pick-ok, Follows, Takes, as-follows, as-takes}
 use Rattle.grammar.proofs.Tables.{is-cell, cell-is, cell_op, op-cell}
 
@@ -69,8 +69,8 @@ more-before : {l : ℕ} {d : Dest} {t : Term} {o : Operand} {s r : List ℕ} →
 more-before dt (d_operand du dx) = d_operands dt du dx
 
 module _ (term : ℕ → List ℕ → Answer (Read Term)) (l : ℕ) (ih : TermSound term l) (d : Dest) where
-  one-sound : (p : ℕ) (s : List ℕ) (o : Operand) (k : ℕ) → readOne term d p s ≡ reads o k → Takes (DOne l d o) s k
-  unfolding readOne
+  one-sound : (p : ℕ) (s : List ℕ) (o : Operand) (k : ℕ) → read_one term d p s ≡ reads o k → Takes (DOne l d o) s k
+  unfolding read_one
   one-sound p s o k e =
       then_by (term p s) _ e λ t i e₁ f₁.
       then_by (read_dest d (p + i) (drop i s)) _ f₁ λ x j e₂ f₂.
@@ -82,11 +82,11 @@ module _ (term : ℕ → List ℕ → Answer (Read Term)) (l : ℕ) (ih : TermSo
         derives = rw (take-add i j s) (d_operand h.derives g.derives);
       })
 
-  two-sound : (p : ℕ) (s : List ℕ) (o : Operands) (k : ℕ) → readTwo term d p s ≡ reads o k → Takes (DTwo l d o) s k
-  unfolding readTwo
+  two-sound : (p : ℕ) (s : List ℕ) (o : Operands) (k : ℕ) → read_two term d p s ≡ reads o k → Takes (DTwo l d o) s k
+  unfolding read_two
   two-sound p s o k e =
       then_by (term p s) _ e λ t i e₁ f₁.
-      then_by (readOne term d (p + i) (drop i s)) _ f₁ λ x j e₂ f₂.
+      then_by (read_one term d (p + i) (drop i s)) _ f₁ λ x j e₂ f₂.
       let h = ih p s t i e₁ in
       let g = one-sound (p + i) (drop i s) x j e₂ in
       as-takes (DTwo l d) f₂ (record {
@@ -132,10 +132,10 @@ term-by term l ih p b s t k (Step x) o e =
     then_by (read_place (suc p) s) _ e λ c j e₁ e₂.
     as-takes (DTerm (suc l)) e₂ (next (λ w. d_step o) (cell-sound (suc p) s c j e₁))
 term-by term l ih p b s t k (One x d) o e =
-    then_by (readOne term d (suc p) s) _ e λ y j e₁ e₂.
+    then_by (read_one term d (suc p) s) _ e λ y j e₁ e₂.
     as-takes (DTerm (suc l)) e₂ (next (λ w. one-term o) (one-sound term l ih d (suc p) s y j e₁))
 term-by term l ih p b s t k (Two x d) o e =
-    then_by (readTwo term d (suc p) s) _ e λ y j e₁ e₂.
+    then_by (read_two term d (suc p) s) _ e λ y j e₁ e₂.
     as-takes (DTerm (suc l)) e₂ (next (λ w. two-term o) (two-sound term l ih d (suc p) s y j e₁))
 term-by term l ih p b s t k BadTerm o e = never e
 
@@ -161,7 +161,7 @@ dest-complete d_null p r = refl
 dest-complete (d_target h) p r = target-complete h p r
 
 pub term-complete : {l : ℕ} {t : Term} {s : List ℕ} → DTerm l t s → (p : ℕ) (r : List ℕ) → read_term l p (s ++ r) ≡ reads t (length s)
-unfolding read_term readOne readTwo
+unfolding read_term read_one read_two
 term-complete (d_constant e) p r = rw e
 term-complete (d_bytes {s = s} e) p r =
     let le : leb (length s) (length (s ++ r)) ≡ true = le-leb (length s) (length (s ++ r)) (omega (arith, length-append s r)) in

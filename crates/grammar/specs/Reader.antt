@@ -61,16 +61,16 @@ abbrev pub before : Term → Operand → Operands
 before t (operand u x) = operands t u x
 
 module _ (term : ℕ → List ℕ → Answer (Read Term)) where
-  unfoldable pub readOne : Dest → ℕ → List ℕ → Answer (Read Operand)
-  readOne d p s =
+  unfoldable pub read_one : Dest → ℕ → List ℕ → Answer (Read Operand)
+  read_one d p s =
       then_read (term p s) (λ t k.
       then_read (read_dest d (p + k) (drop k s)) (λ x j.
       reads (operand t x) (k + j)))
 
-  unfoldable pub readTwo : Dest → ℕ → List ℕ → Answer (Read Operands)
-  readTwo d p s =
+  unfoldable pub read_two : Dest → ℕ → List ℕ → Answer (Read Operands)
+  read_two d p s =
       then_read (term p s) (λ t k.
-      then_read (readOne d (p + k) (drop k s)) (λ o j.
+      then_read (read_one d (p + k) (drop k s)) (λ o j.
       reads (before t o) (k + j)))
 
 abbrev pub one_of : OneOp → Operand → Term
@@ -85,8 +85,8 @@ term_by term p s (Constant n) = reads (const n) 1
 term_by term p s (Bytes n) = then_read (read_bytes n (suc p) s) (λ t k. reads t (suc k))
 term_by term p s (Cell c) = reads (read (cell c)) 1
 term_by term p s (Step o) = then_read (read_place (suc p) s) (λ x k. reads (step o x) (suc k))
-term_by term p s (One o d) = then_read (readOne term d (suc p) s) (λ x k. reads (one_of o x) (suc k))
-term_by term p s (Two o d) = then_read (readTwo term d (suc p) s) (λ x k. reads (two_of o x) (suc k))
+term_by term p s (One o d) = then_read (read_one term d (suc p) s) (λ x k. reads (one_of o x) (suc k))
+term_by term p s (Two o d) = then_read (read_two term d (suc p) s) (λ x k. reads (two_of o x) (suc k))
 term_by term p s BadTerm = refuses 3 p
 
 -- depth is tested before the byte, even at the part's end
@@ -129,35 +129,35 @@ module _ (list : ℕ → List ℕ → Answer (Read Stmts)) where
       reads (head t xs) w.raw))
       (ends_early (p + w.raw))))
 
-  abbrev pub elseBy : ℕ → List ℕ → Bool → Answer (Read Stmts)
-  elseBy p s true =
+  abbrev pub else_by : ℕ → List ℕ → Bool → Answer (Read Stmts)
+  else_by p s true =
       and_then (read_package p s) (λ w.
       then_read (list (p + w.used) (take (w.raw - w.used) (drop w.used s))) (λ xs _.
       reads xs (suc w.raw)))
-  elseBy p s false = reads nil 0
+  else_by p s false = reads nil 0
 
-  unfoldable pub readElse : ℕ → List ℕ → Answer (Read Stmts)
-  readElse p [] = reads nil 0
-  readElse p (b ∷ s) = elseBy (suc p) s (eqb b DEF_ELSE_OP)
+  unfoldable pub read_else : ℕ → List ℕ → Answer (Read Stmts)
+  read_else p [] = reads nil 0
+  read_else p (b ∷ s) = else_by (suc p) s (eqb b DEF_ELSE_OP)
 
-  unfoldable pub readIf : ℕ → List ℕ → Answer (Read Stmt)
-  readIf p s =
+  unfoldable pub read_if : ℕ → List ℕ → Answer (Read Stmt)
+  read_if p s =
       then_read (read_head p s) (λ h n.
-      then_read (readElse (p + n) (drop n s)) (λ ys j.
+      then_read (read_else (p + n) (drop n s)) (λ ys j.
       reads (if_of h ys) (n + j)))
 
   -- b is the first byte, s the bytes behind it
-  abbrev pub stmtBy : ℕ → ℕ → List ℕ → StmtOp → Answer (Read Stmt)
-  stmtBy b p s (Simple o) = reads (plain o) 1
-  stmtBy b p s Return = then_read (read_term depth_limit (suc p) s) (λ t k. reads (return t) (suc k))
-  stmtBy b p s If = then_read (readIf (suc p) s) (λ x k. reads x (suc k))
-  stmtBy b p s While = then_read (read_head (suc p) s) (λ h k. reads (while_of h) (suc k))
-  stmtBy b p s Expr = then_read (read_term depth_limit p (b ∷ s)) (λ t k. reads (expr t) k)
-  stmtBy b p s BadStmt = refuses 3 p
+  abbrev pub stmt_by : ℕ → ℕ → List ℕ → StmtOp → Answer (Read Stmt)
+  stmt_by b p s (Simple o) = reads (plain o) 1
+  stmt_by b p s Return = then_read (read_term depth_limit (suc p) s) (λ t k. reads (return t) (suc k))
+  stmt_by b p s If = then_read (read_if (suc p) s) (λ x k. reads x (suc k))
+  stmt_by b p s While = then_read (read_head (suc p) s) (λ h k. reads (while_of h) (suc k))
+  stmt_by b p s Expr = then_read (read_term depth_limit p (b ∷ s)) (λ t k. reads (expr t) k)
+  stmt_by b p s BadStmt = refuses 3 p
 
-  abbrev pub stmtAt : ℕ → List ℕ → Answer (Read Stmt)
-  stmtAt p [] = refuses 1 p
-  stmtAt p (b ∷ s) = stmtBy b p s (stmt_op_at b)
+  abbrev pub stmt_at : ℕ → List ℕ → Answer (Read Stmt)
+  stmt_at p [] = refuses 1 p
+  stmt_at p (b ∷ s) = stmt_by b p s (stmt_op_at b)
 
 -- statements to the end of the part; `skip` bytes belong to the statement before
 unfoldable pub list_by : (ℕ → List ℕ → Answer (Read Stmt)) → ℕ → ℕ → List ℕ → Answer (Read Stmts)
@@ -171,7 +171,7 @@ list_by stmt zero p (b ∷ s) =
 -- depth is tested before the byte
 unfoldable pub read_stmt : ℕ → ℕ → List ℕ → Answer (Read Stmt)
 read_stmt zero p s = refuses 4 p
-read_stmt (suc left) p s = stmtAt (list_by (read_stmt left) 0) p s
+read_stmt (suc left) p s = stmt_at (list_by (read_stmt left) 0) p s
 
 abbrev pub read_list : ℕ → ℕ → List ℕ → Answer (Read Stmts)
 read_list left = list_by (read_stmt left) 0

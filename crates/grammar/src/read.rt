@@ -1,7 +1,7 @@
 // Reading a list of statements without running it, as term.rt reads terms: a body is a part that begins inside its block, at `base`.
 ghost use Rattle.std.specs.Prelude.{◌≡◌, ◌+◌, ◌≤◌, ◌<◌, length, drop};
 ghost use Rattle.pkg_length.specs.Refusal.{block_limit};
-ghost use Rattle.grammar.specs.Reader.{read_package, read_head, readElse, readIf, read_stmt, read_list};
+ghost use Rattle.grammar.specs.Reader.{read_package, read_head, read_else, read_if, read_stmt, read_list};
 ghost use Rattle.grammar.specs.Said.{reached, packed, up_to};
 
 use crate::opcode;
@@ -107,7 +107,7 @@ fn predicate_and_body(part: &[u8], base: usize, at: usize, left: usize) -> Reach
 #[cycle(def_else_def_if_else_predicate_and_body_statement_opcode_term_list)]
 fn def_if_else(part: &[u8], base: usize, at: usize, left: usize) -> Reach
     requires { (at ≤ length part.now) × (base + length part.now ≤ block_limit) }
-    ensures { reached result ≡ up_to at (readIf (read_list left) (base + at) (drop at part.now)) }
+    ensures { reached result ≡ up_to at (read_if (read_list left) (base + at) (drop at part.now)) }
 {
     let h = predicate_and_body(part, base, at, left);
     if h.0 != NEXT {
@@ -120,7 +120,7 @@ fn def_if_else(part: &[u8], base: usize, at: usize, left: usize) -> Reach
 #[cycle(def_else_def_if_else_predicate_and_body_statement_opcode_term_list)]
 fn def_else(part: &[u8], base: usize, at: usize, left: usize) -> Reach
     requires { (at ≤ length part.now) × (base + length part.now ≤ block_limit) }
-    ensures { reached result ≡ up_to at (readElse (read_list left) (base + at) (drop at part.now)) }
+    ensures { reached result ≡ up_to at (read_else (read_list left) (base + at) (drop at part.now)) }
 {
     if part.len() <= at {
         return Reach(NEXT, at);

@@ -2,7 +2,7 @@
 // `base` is where the part begins in its block, and `left` how many depths are left.
 ghost use Rattle.std.specs.Prelude.{◌≡◌, ◌+◌, ◌≤◌, length, drop};
 ghost use Rattle.pkg_length.specs.Refusal.{block_limit};
-ghost use Rattle.grammar.specs.Reader.{read_bytes, read_place, read_dest, readOne, readTwo, read_term};
+ghost use Rattle.grammar.specs.Reader.{read_bytes, read_place, read_dest, read_one, read_two, read_term};
 ghost use Rattle.grammar.specs.Said.{refusal_of, reached, up_to};
 
 use crate::opcode;
@@ -118,7 +118,7 @@ pub(crate) fn term_arg(part: &[u8], base: usize, at: usize, left: usize) -> Reac
 #[cycle(one_term_arg_two)]
 fn one(part: &[u8], base: usize, at: usize, left: usize, d: Dest) -> Reach
     requires { (at ≤ length part.now) × (base + length part.now ≤ block_limit) }
-    ensures { reached result ≡ up_to at (readOne (read_term left) d (base + at) (drop at part.now)) }
+    ensures { reached result ≡ up_to at (read_one (read_term left) d (base + at) (drop at part.now)) }
 {
     let r = term_arg(part, base, at, left);
     if r.0 != NEXT {
@@ -131,7 +131,7 @@ fn one(part: &[u8], base: usize, at: usize, left: usize, d: Dest) -> Reach
 #[cycle(one_term_arg_two)]
 fn two(part: &[u8], base: usize, at: usize, left: usize, d: Dest) -> Reach
     requires { (at ≤ length part.now) × (base + length part.now ≤ block_limit) }
-    ensures { reached result ≡ up_to at (readTwo (read_term left) d (base + at) (drop at part.now)) }
+    ensures { reached result ≡ up_to at (read_two (read_term left) d (base + at) (drop at part.now)) }
 {
     let r = term_arg(part, base, at, left);
     if r.0 != NEXT {

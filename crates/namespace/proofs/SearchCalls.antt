@@ -84,29 +84,29 @@ module _ (ws : List ℕ) (ok : is_well_formed limits ws ≡ true) (scope : AmlNa
           ∙ ap (told component_limit) (sym (search_is ∙ ap (λ (a : Answer (Deep ℕ)). named c (λ f. record { handle = f.value; asked = f.asked }) (found_of ns (length ns) (refuses 16 0) a)) given.1))
 
   -- levels
-  abbrev nearLevel : Answer (Deep (Unit {0}))
-  nearLevel = deepest (level_held (take limits.levels ws) (keys ns) (key c)) (length ns)
+  abbrev near_level : Answer (Deep (Unit {0}))
+  near_level = deepest (level_held (take limits.levels ws) (keys ns) (key c)) (length ns)
 
-  level-is : level_up_answer limits t c ns ≡ named c (λ f. f.asked) (found_of ns (length ns) (refuses 15 1) nearLevel)
+  level-is : level_up_answer limits t c ns ≡ named c (λ f. f.asked) (found_of ns (length ns) (refuses 15 1) near_level)
   unfolding level_up_answer
   level-is = ap (named c (λ f. f.asked)) (level-search limits (omega arith) ws ok c ns)
 
   module _ (k : ℕ) (e : k ≡ depth_of (deepest (level_held (take limits.levels ws) (keys ns) (key c)) (length (keys ns)))) where
-    depth-found : k ≡ depth_of nearLevel
+    depth-found : k ≡ depth_of near_level
     depth-found = e ∙ ap (λ (n : ℕ). depth_of (deepest (level_held (take limits.levels ws) (keys ns) (key c)) n)) (length-keys ns)
 
     pub level-none : k ≡ 0 → level_up_answer limits t c ns ≡ refuses 15 1
-    level-none z = go nearLevel refl
+    level-none z = go near_level refl
       where
-        go : (a : Answer (Deep (Unit {0}))) → nearLevel ≡ a → level_up_answer limits t c ns ≡ refuses 15 1
+        go : (a : Answer (Deep (Unit {0}))) → near_level ≡ a → level_up_answer limits t c ns ≡ refuses 15 1
         go (gives d) h = absurd (omega (arith, (level-deep limits (omega arith) ws ok c ns d h).0, depth-found ∙ ap depth_of h))
         go (refuses n p) h = level-is ∙ ap (λ (a : Answer (Deep (Unit {0}))). named c (λ f. f.asked) (found_of ns (length ns) (refuses 15 1) a)) h
 
     module _ (z : k ≡ 0 → ⊥) where
-      held : (d : Deep (Unit {0})) × (nearLevel ≡ gives d)
-      held = go nearLevel refl
+      held : (d : Deep (Unit {0})) × (near_level ≡ gives d)
+      held = go near_level refl
         where
-          go : (a : Answer (Deep (Unit {0}))) → nearLevel ≡ a → (d : Deep (Unit {0})) × (nearLevel ≡ gives d)
+          go : (a : Answer (Deep (Unit {0}))) → near_level ≡ a → (d : Deep (Unit {0})) × (near_level ≡ gives d)
           go (gives d) h = (d, h)
           go (refuses n p) h = absurd (z (depth-found ∙ ap depth_of h))
 

@@ -159,10 +159,10 @@ package-complete (d_package {n = n} {h = h} {c = c} sp e) r g =
 -- ## What the code reads by `pkg_length`
 
 module _ (t : List ℕ) (short : length t ≤ block_limit) where
-  abbrev pkgOf : Raw → Answer Pkg
-  pkgOf a = and_then (from_raw (length t) a.raw) (λ l. gives (record { length_read = l; used = a.used }))
+  abbrev pkg_of : Raw → Answer Pkg
+  pkg_of a = and_then (from_raw (length t) a.raw) (λ l. gives (record { length_read = l; used = a.used }))
 
-  pkg-is : pkg_length_answer t ≡ and_then (spelt t) pkgOf
+  pkg-is : pkg_length_answer t ≡ and_then (spelt t) pkg_of
   unfolding pkg_length_answer raw_length_answer
   pkg-is = rw (le-leb (length t) block_limit short)
 
@@ -179,7 +179,7 @@ module _ (t : List ℕ) (short : length t ≤ block_limit) where
   unfolding package_in
   package-no n q e = go (spelt t) refl (e ∙ pkg-is)
     where
-      tried : (a : Raw) (b : Bool) → leb a.raw (length t) ≡ b → spelt t ≡ gives a → refuses n q ≡ pkgOf a → Refuses n q
+      tried : (a : Raw) (b : Bool) → leb a.raw (length t) ≡ b → spelt t ≡ gives a → refuses n q ≡ pkg_of a → Refuses n q
       tried a true h f z = refuses-not {v = pkg _ _} (z ∙ ap (λ (R : Answer PkgLength). and_then R (λ l. gives (pkg l a.used))) (fit (length t) a (leb-true _ _ h)))
       tried a false h f z =
           let lt : length t < a.raw = leb-false a.raw (length t) h in
@@ -188,7 +188,7 @@ module _ (t : List ℕ) (short : length t ≤ block_limit) where
           let y : q ≡ 0 = cc in
           record { is = rw (x, y, f, le-leb a.used a.raw (not-both t a f lt), unfit (length t) a lt); inside = omega arith; one-or-two = λ _. x }
 
-      go : (R : Answer Raw) → spelt t ≡ R → refuses n q ≡ and_then R pkgOf → Refuses n q
+      go : (R : Answer Raw) → spelt t ≡ R → refuses n q ≡ and_then R pkg_of → Refuses n q
       go (gives a) f h = tried a (leb a.raw (length t)) refl f h
       go (refuses c m) f h =
           let y : n ≡ c = cc in
@@ -201,7 +201,7 @@ module _ (t : List ℕ) (short : length t ≤ block_limit) where
     read_as : {X : Type 0} → ((a : Raw) → spelt t ≡ gives a → a.raw ≤ length t → a.raw ≡ l.raw_length → a.used ≡ u → X) → X
     read_as {X} g = go (spelt t) refl (e ∙ pkg-is)
       where
-        tried : (a : Raw) (b : Bool) → leb a.raw (length t) ≡ b → spelt t ≡ gives a → gives (pkg l u) ≡ pkgOf a → X
+        tried : (a : Raw) (b : Bool) → leb a.raw (length t) ≡ b → spelt t ≡ gives a → gives (pkg l u) ≡ pkg_of a → X
         tried a true h f q =
             let le : a.raw ≤ length t = leb-true _ _ h in
             let made : PkgLength = record { raw_length = a.raw; end_offset = length t - a.raw } in
@@ -210,7 +210,7 @@ module _ (t : List ℕ) (short : length t ≤ block_limit) where
             g a f le (sym (ap (λ (x : Pkg). x.length_read.raw_length) v)) (sym (ap (λ (x : Pkg). x.used) v))
         tried a false h f q = refuses-not {n = 2} {p = 0} (sym (q ∙ rw (unfit (length t) a (leb-false _ _ h))))
 
-        go : (R : Answer Raw) → spelt t ≡ R → gives (pkg l u) ≡ and_then R pkgOf → X
+        go : (R : Answer Raw) → spelt t ≡ R → gives (pkg l u) ≡ and_then R pkg_of → X
         go (gives a) f h = tried a (leb a.raw (length t)) refl f h
         go (refuses c m) f h = refuses-not (sym h)
 

@@ -16,11 +16,11 @@ use Rattle.grammar.specs.declared.opcode.TermOp.{TermOp}
 use Rattle.grammar.specs.declared.opcode.TermOp.TheVariants.{Bytes, Cell, Step, One, Two}
 use Rattle.grammar.specs.Opcode.{is_cell_byte, term_op_at}
 use Rattle.grammar.specs.Tree.{cell, Target, Term, const, read, step}
-use Rattle.grammar.specs.Reader.{Read, took, reads, then_read, read_bytes, read_place, read_dest, Operand, operand, Operands, before, readOne, readTwo, term_by, read_term, read_package}
+use Rattle.grammar.specs.Reader.{Read, took, reads, then_read, read_bytes, read_place, read_dest, Operand, operand, Operands, before, read_one, read_two, term_by, read_term, read_package}
 use Rattle.statement.specs.Frames.{wrote}
 use Rattle.statement.specs.Meaning.{unary, binary, frames, Ran, ran, put, eval}
 use Rattle.grammar.specs.Said.{Accepts}
-use Rattle.statement.specs.Lent.{spanned, Spans, TermReady, value_said, ev_at, evaled_by, evOne, evTwo, evSecond, ev_put}
+use Rattle.statement.specs.Lent.{spanned, Spans, TermReady, value_said, ev_at, evaled_by, ev_one, ev_two, ev_second, ev_put}
 use Rattle.grammar.proofs.Answers.{Takes, then_by, pick-ok}
 use Rattle.grammar.proofs.Terms.{term-sound, cell-sound}
 use Rattle.grammar.proofs.Reaches.{here, term-is-by, package-in}
@@ -127,14 +127,14 @@ module _ (l at : ℕ) (s : List ℕ) (d : Dest) where
   the_term = read_term l 0 (drop at s)
 
   abbrev the_one : Answer (Read Operand)
-  the_one = readOne (read_term l) d 0 (drop at s)
+  the_one = read_one (read_term l) d 0 (drop at s)
 
   abbrev the-two : Answer (Read Operands)
-  the-two = readTwo (read_term l) d 0 (drop at s)
+  the-two = read_two (read_term l) d 0 (drop at s)
 
   one-open : {X : Type 0} → Accepts the_one → ((t : Term) (k : ℕ) (x : Target) (j : ℕ) → the_term ≡ reads t k → at + k ≤ length s →
       read_dest d 0 (drop (at + k) s) ≡ reads x j → the_one ≡ reads (operand t x) (k + j) → X) → X
-  unfolding readOne
+  unfolding read_one
   one-open acc g =
       acc-ok the_one acc λ o n e.
       then_by the_term _ e λ t k e₁ f₁.
@@ -145,12 +145,12 @@ module _ (l at : ℕ) (s : List ℕ) (d : Dest) where
       (rw (e₁, e₂))
 
   two-open : {X : Type 0} → Accepts the-two → ((t : Term) (k : ℕ) (o : Operand) (j : ℕ) → the_term ≡ reads t k → at + k ≤ length s →
-      readOne (read_term l) d 0 (drop (at + k) s) ≡ reads o j → the-two ≡ reads (before t o) (k + j) → X) → X
-  unfolding readTwo
+      read_one (read_term l) d 0 (drop (at + k) s) ≡ reads o j → the-two ≡ reads (before t o) (k + j) → X) → X
+  unfolding read_two
   two-open acc g =
       acc-ok the-two acc λ o n e.
       then_by the_term _ e λ t k e₁ f₁.
-      then_by (readOne (read_term l) d (0 + k) (drop k (drop at s))) _ f₁ λ x j e₂ f₂.
+      then_by (read_one (read_term l) d (0 + k) (drop k (drop at s))) _ f₁ λ x j e₂ f₂.
       let h : Takes _ (drop at s) k = term-sound l 0 (drop at s) t k e₁ in
       g t k x j e₁ (omega (arith, h.some, h.fits, length-drop at s))
       (rw drop-drop at (one-any l d (0 + k) 0 (drop k (drop at s)) x j e₂))
@@ -164,11 +164,11 @@ module _ (l at : ℕ) (s : List ℕ) (d : Dest) where
 
   module _ (w : ℕ) (f g : Frame) (v : Value) (ev : ran g 0 (value_said v) ≡ evaled_by (eval frames w) at the_term f) where
     module _ (acc : Accepts the_one) where
-      pub one-missing : (o : OneOp) (c : ℕ) → v ≡ Missing c → ran g 0 (refuses 23 c) ≡ evaled_by (evOne w o) at the_one f
+      pub one-missing : (o : OneOp) (c : ℕ) → v ≡ Missing c → ran g 0 (refuses 23 c) ≡ evaled_by (ev_one w o) at the_one f
       unfolding eval
       one-missing o c h = one-open acc λ t k x j e₁ le e₂ e₃. rw (e₃, ev-missing (eval frames w) at the_term f g v ev t k e₁ c h)
 
-      pub second-missing : (o : TwoOp) (n c : ℕ) → v ≡ Missing c → ran g 0 (refuses 23 c) ≡ evaled_by (evSecond w o n) at the_one f
+      pub second-missing : (o : TwoOp) (n c : ℕ) → v ≡ Missing c → ran g 0 (refuses 23 c) ≡ evaled_by (ev_second w o n) at the_one f
       second-missing o n c h = one-open acc λ t k x j e₁ le e₂ e₃. rw (e₃, ev-missing (eval frames w) at the_term f g v ev t k e₁ c h)
 
       module _ (n m : ℕ) (h : v ≡ Num n m) where
@@ -184,47 +184,47 @@ module _ (l at : ℕ) (s : List ℕ) (d : Dest) where
               let r : at + k + j ≡ at + (k + j) = omega arith in
               ez ∙ ap (λ (b : ℕ). evaled_by (ev_put i) b (read_dest d 0 (drop b s)) g) q ∙ rw (e, r)
 
-          pub one-stored : (o : OneOp) → i ≡ unary w o n → z ≡ evaled_by (evOne w o) at the_one f
+          pub one-stored : (o : OneOp) → i ≡ unary w o n → z ≡ evaled_by (ev_one w o) at the_one f
           unfolding eval
           one-stored o ei =
               one-open acc λ t k x j e₁ le e₂ e₃.
               let y = ev-num (eval frames w) at the_term f g v ev t k e₁ n m h in
               rw (e₃, y.1) (stored k x j y.0 e₂ ∙ rw ei)
 
-          pub second-stored : (o : TwoOp) (a : ℕ) → i ≡ binary w o a n → z ≡ evaled_by (evSecond w o a) at the_one f
+          pub second-stored : (o : TwoOp) (a : ℕ) → i ≡ binary w o a n → z ≡ evaled_by (ev_second w o a) at the_one f
           second-stored o a ei =
               one-open acc λ t k x j e₁ le e₂ e₃.
               let y = ev-num (eval frames w) at the_term f g v ev t k e₁ n m h in
               rw (e₃, y.1) (stored k x j y.0 e₂ ∙ rw ei)
 
     module _ (acc : Accepts the-two) where
-      two-lacks : (o : TwoOp) (t : Term) (x : Operand) (c : ℕ) → eval frames w t f 0 ≡ ran g 0 (refuses 23 c) → evTwo w o (before t x) f 0 ≡ ran g 0 (refuses 23 c)
+      two-lacks : (o : TwoOp) (t : Term) (x : Operand) (c : ℕ) → eval frames w t f 0 ≡ ran g 0 (refuses 23 c) → ev_two w o (before t x) f 0 ≡ ran g 0 (refuses 23 c)
       unfolding eval
       two-lacks o t (operand u x) c e = rw e
 
-      two-goes : (o : TwoOp) (t : Term) (x : Operand) (n : ℕ) → eval frames w t f 0 ≡ ran g 0 (gives n) → evTwo w o (before t x) f 0 ≡ evSecond w o n x g 0
+      two-goes : (o : TwoOp) (t : Term) (x : Operand) (n : ℕ) → eval frames w t f 0 ≡ ran g 0 (gives n) → ev_two w o (before t x) f 0 ≡ ev_second w o n x g 0
       unfolding eval
       two-goes o t (operand u x) n e = rw e
 
-      pub two-missing : (o : TwoOp) (c : ℕ) → v ≡ Missing c → ran g 0 (refuses 23 c) ≡ evaled_by (evTwo w o) at the-two f
+      pub two-missing : (o : TwoOp) (c : ℕ) → v ≡ Missing c → ran g 0 (refuses 23 c) ≡ evaled_by (ev_two w o) at the-two f
       two-missing o c h =
           two-open acc λ t k x j e₁ le e₂ e₃.
           rw (e₃, two-lacks o t x c (ev-missing (eval frames w) at the_term f g v ev t k e₁ c h))
 
       module _ (n m : ℕ) (h : v ≡ Num n m) where
-        pub two-second-acc : Accepts (readOne (read_term l) d 0 (drop m s))
+        pub two-second-acc : Accepts (read_one (read_term l) d 0 (drop m s))
         two-second-acc =
             two-open acc λ t k x j e₁ le e₂ e₃.
             let y = ev-num (eval frames w) at the_term f g v ev t k e₁ n m h in
             rw y.0 (is-acc e₂)
 
-        pub two-second : (o : TwoOp) (z : Ran Frame (Read ℕ)) → z ≡ evaled_by (evSecond w o n) m (readOne (read_term l) d 0 (drop m s)) g → z ≡ evaled_by (evTwo w o) at the-two f
+        pub two-second : (o : TwoOp) (z : Ran Frame (Read ℕ)) → z ≡ evaled_by (ev_second w o n) m (read_one (read_term l) d 0 (drop m s)) g → z ≡ evaled_by (ev_two w o) at the-two f
         two-second o z ez =
             two-open acc λ t k x j e₁ le e₂ e₃.
             let y = ev-num (eval frames w) at the_term f g v ev t k e₁ n m h in
             let r : at + k + j ≡ at + (k + j) = omega arith in
             rw (e₃, two-goes o t x n y.1)
-            (ez ∙ ap (λ (b : ℕ). evaled_by (evSecond w o n) b (readOne (read_term l) d 0 (drop b s)) g) y.0 ∙ rw (e₂, r))
+            (ez ∙ ap (λ (b : ℕ). evaled_by (ev_second w o n) b (read_one (read_term l) d 0 (drop b s)) g) y.0 ∙ rw (e₂, r))
 
 -- ## A term by its opcode
 
@@ -291,27 +291,27 @@ module _ (term : ℕ → List ℕ → Answer (Read Term)) (at : ℕ) (s : List �
 
 -- an operator's answer, from the byte behind its opcode
 module _ (l at : ℕ) (s : List ℕ) (d : Dest) where
-  pub operand-acc : (o : OneOp) → Accepts (term_by (read_term l) 0 (drop (at + 1) s) (One o d)) → Accepts (readOne (read_term l) d 0 (drop (at + 1) s))
+  pub operand-acc : (o : OneOp) → Accepts (term_by (read_term l) 0 (drop (at + 1) s) (One o d)) → Accepts (read_one (read_term l) d 0 (drop (at + 1) s))
   operand-acc o acc =
-      acc-ok (readOne (read_term l) d 1 (drop (at + 1) s)) (acc-then (readOne (read_term l) d 1 (drop (at + 1) s)) _ acc) λ x k e.
+      acc-ok (read_one (read_term l) d 1 (drop (at + 1) s)) (acc-then (read_one (read_term l) d 1 (drop (at + 1) s)) _ acc) λ x k e.
       is-acc (one-any l d 1 0 (drop (at + 1) s) x k e)
 
-  pub operand-val : (w : ℕ) (o : OneOp) (f : Frame) (z : Ran Frame (Read ℕ)) → Accepts (readOne (read_term l) d 0 (drop (at + 1) s)) →
-      z ≡ evaled_by (evOne w o) (at + 1) (readOne (read_term l) d 0 (drop (at + 1) s)) f → z ≡ evaled_by (eval frames w) at (term_by (read_term l) 0 (drop (at + 1) s) (One o d)) f
+  pub operand-val : (w : ℕ) (o : OneOp) (f : Frame) (z : Ran Frame (Read ℕ)) → Accepts (read_one (read_term l) d 0 (drop (at + 1) s)) →
+      z ≡ evaled_by (ev_one w o) (at + 1) (read_one (read_term l) d 0 (drop (at + 1) s)) f → z ≡ evaled_by (eval frames w) at (term_by (read_term l) 0 (drop (at + 1) s) (One o d)) f
   operand-val w o f z acc ez =
-      acc-ok (readOne (read_term l) d 0 (drop (at + 1) s)) acc λ x k e.
+      acc-ok (read_one (read_term l) d 0 (drop (at + 1) s)) acc λ x k e.
       let q : at + 1 + k ≡ at + suc k = omega arith in
       rw (one-any l d 0 1 (drop (at + 1) s) x k e) (ez ∙ rw (e, q))
 
-  pub operands-acc : (o : TwoOp) → Accepts (term_by (read_term l) 0 (drop (at + 1) s) (Two o d)) → Accepts (readTwo (read_term l) d 0 (drop (at + 1) s))
+  pub operands-acc : (o : TwoOp) → Accepts (term_by (read_term l) 0 (drop (at + 1) s) (Two o d)) → Accepts (read_two (read_term l) d 0 (drop (at + 1) s))
   operands-acc o acc =
-      acc-ok (readTwo (read_term l) d 1 (drop (at + 1) s)) (acc-then (readTwo (read_term l) d 1 (drop (at + 1) s)) _ acc) λ x k e.
+      acc-ok (read_two (read_term l) d 1 (drop (at + 1) s)) (acc-then (read_two (read_term l) d 1 (drop (at + 1) s)) _ acc) λ x k e.
       is-acc (two-any l d 1 0 (drop (at + 1) s) x k e)
 
-  pub operands-val : (w : ℕ) (o : TwoOp) (f : Frame) (z : Ran Frame (Read ℕ)) → Accepts (readTwo (read_term l) d 0 (drop (at + 1) s)) →
-      z ≡ evaled_by (evTwo w o) (at + 1) (readTwo (read_term l) d 0 (drop (at + 1) s)) f → z ≡ evaled_by (eval frames w) at (term_by (read_term l) 0 (drop (at + 1) s) (Two o d)) f
+  pub operands-val : (w : ℕ) (o : TwoOp) (f : Frame) (z : Ran Frame (Read ℕ)) → Accepts (read_two (read_term l) d 0 (drop (at + 1) s)) →
+      z ≡ evaled_by (ev_two w o) (at + 1) (read_two (read_term l) d 0 (drop (at + 1) s)) f → z ≡ evaled_by (eval frames w) at (term_by (read_term l) 0 (drop (at + 1) s) (Two o d)) f
   operands-val w o f z acc ez =
-      acc-ok (readTwo (read_term l) d 0 (drop (at + 1) s)) acc λ x k e.
+      acc-ok (read_two (read_term l) d 0 (drop (at + 1) s)) acc λ x k e.
       let q : at + 1 + k ≡ at + suc k = omega arith in
       rw (two-any l d 0 1 (drop (at + 1) s) x k e) (ez ∙ rw (e, q))
 

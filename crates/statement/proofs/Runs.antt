@@ -15,11 +15,11 @@ use Rattle.grammar.specs.declared.opcode.StmtOp.{StmtOp}
 use Rattle.grammar.specs.Opcode.{stmt_op_at}
 use Rattle.grammar.specs.Tree.{Term, Stmt, plain, return, if_else, while, expr, Stmts, cons}
 use Rattle.grammar.specs.Grammar.{depth_limit}
-use Rattle.grammar.specs.Reader.{Read, took, reads, then_read, read_term, read_package, Head, head, while_of, read_head, elseBy, readElse, readIf, stmtBy, list_by, read_stmt, read_list}
-use Rattle.statement.specs.Meaning.{frames, Ran, ran, then_do, spend, eval, Ended, finished, returned, break_out, continue_out, go_on, end_of_plain, again, over, after_turn, oneTurn, turns, doStmt, doStmts}
+use Rattle.grammar.specs.Reader.{Read, took, reads, then_read, read_term, read_package, Head, head, while_of, read_head, else_by, read_else, read_if, stmt_by, list_by, read_stmt, read_list}
+use Rattle.statement.specs.Meaning.{frames, Ran, ran, then_do, spend, eval, Ended, finished, returned, break_out, continue_out, go_on, end_of_plain, again, over, after_turn, one_turn, turns, do_stmt, do_stmts}
 use Rattle.grammar.specs.Said.{up_to}
 use Rattle.grammar.specs.Said.{Accepts}
-use Rattle.statement.specs.Lent.{StmtReady, value_said, evaled_by, out_said, Way, on, stop, step_at, step_f, turn_part_at, ranOf, step_of, stepDo, whileDo, bodyFrom, TurnsOk, turn_of, turnsBy, is_finished, does_turn_on, out_of_while, moved_to, plain_to, return_to, drop_to}
+use Rattle.statement.specs.Lent.{StmtReady, value_said, evaled_by, out_said, Way, on, stop, step_at, step_f, turn_part_at, ran_of, step_of, step_do, while_do, body_from, TurnsOk, turn_of, turns_by, is_finished, does_turn_on, out_of_while, moved_to, plain_to, return_to, drop_to}
 use Rattle.grammar.proofs.Answers.{Takes, then_by, and-by, pick-ok}
 use Rattle.grammar.proofs.Statements.{stmt-sound}
 use Rattle.grammar.proofs.Reaches.{here, stmt-is-by, list-eq}
@@ -28,7 +28,7 @@ use Rattle.grammar.proofs.Places.{term-any, list_any, else-any, head-any, if-any
 use Rattle.statement.proofs.Units.{left_of, term-left, list_left, turns_next, turn-less, with-units}
 use Rattle.statement.proofs.Evals.{acc-ok, is-acc, acc-then, acc-same, ev-num, ev-missing}
 
-pub ran-left : (w : ℕ) (R : Answer (Read Stmts)) (f : Frame) (u : ℕ) → left_of (ranOf w R f u) ≤ u
+pub ran-left : (w : ℕ) (R : Answer (Read Stmts)) (f : Frame) (u : ℕ) → left_of (ran_of w R f u) ≤ u
 unfolding left_of
 ran-left w (gives (took xs k)) f u = list_left frames w xs f u
 ran-left w (refuses n p) f u = omega arith
@@ -99,51 +99,51 @@ module _ (l at : ℕ) (s : List ℕ) (f : Frame) (u : ℕ) (lt : at < length s) 
   list-stmt-acc = list_open (λ x k xs j h₁ h₂ e₁ e₂ e₃. is-acc e₁)
 
   module _ (w : ℕ) (g : Frame) (r : Moved) (er : step_f g r ≡ step_of w at (read_stmt l 0 (drop at s)) f u) where
-    same : (x : Stmt) (k : ℕ) → read_stmt l 0 (drop at s) ≡ reads x k → step_f g r ≡ step_at (at + k) (spend f u (λ v. doStmt frames w x f v))
+    same : (x : Stmt) (k : ℕ) → read_stmt l 0 (drop at s) ≡ reads x k → step_f g r ≡ step_at (at + k) (spend f u (λ v. do_stmt frames w x f v))
     same x k e = er ∙ ap (λ (R : Answer (Read Stmt)). step_of w at R f u) e
 
     pub run_more : is_finished r.out ≡ true → (at < r.next) × (r.next ≤ length s) × Accepts (read_list l 0 (drop r.next s)) ×
-        (ranOf w (read_list l 0 (drop at s)) f u ≡ ranOf w (read_list l 0 (drop r.next s)) g r.units)
-    unfolding doStmts
+        (ran_of w (read_list l 0 (drop at s)) f u ≡ ran_of w (read_list l 0 (drop r.next s)) g r.units)
+    unfolding do_stmts
     run_more h =
         list_open λ x k xs j h₁ h₂ e₁ e₂ e₃.
         let o : out_said r.out ≡ gives finished = ends-finished r.out h in
-        let q : ran g r.units (out_said r.out) ≡ spend f u (λ v. doStmt frames w x f v) = same_end r.next (at + k) _ _ (same x k e₁) in
-        let p : ran g r.units (gives finished) ≡ spend f u (λ v. doStmt frames w x f v) = rw o at q in
+        let q : ran g r.units (out_said r.out) ≡ spend f u (λ v. do_stmt frames w x f v) = same_end r.next (at + k) _ _ (same x k e₁) in
+        let p : ran g r.units (gives finished) ≡ spend f u (λ v. do_stmt frames w x f v) = rw o at q in
         let z : ran g r.units (gives (on r.next)) ≡ ran g r.units (gives (on (at + k))) =
         (rw o at (same x k e₁)) ∙ sym (ap (step_at (at + k)) p) in
         let d : r.next ≡ at + k = cc in
         (omega arith, omega arith, rw d (is-acc e₂), rw (e₃, d, e₂, ← p))
 
-    pub run-stop : is_finished r.out ≡ false → ran g r.units (out_said r.out) ≡ ranOf w (read_list l 0 (drop at s)) f u
-    unfolding doStmts
+    pub run-stop : is_finished r.out ≡ false → ran g r.units (out_said r.out) ≡ ran_of w (read_list l 0 (drop at s)) f u
+    unfolding do_stmts
     run-stop h =
         list_open λ x k xs j h₁ h₂ e₁ e₂ e₃.
-        let q : ran g r.units (out_said r.out) ≡ spend f u (λ v. doStmt frames w x f v) = same_end r.next (at + k) _ _ (same x k e₁) in
-        rw (e₃, ← q) (ends-list r.out g r.units (λ y z. doStmts frames w xs y z) h)
+        let q : ran g r.units (out_said r.out) ≡ spend f u (λ v. do_stmt frames w x f v) = same_end r.next (at + k) _ _ (same x k e₁) in
+        rw (e₃, ← q) (ends-list r.out g r.units (λ y z. do_stmts frames w xs y z) h)
 
-pub run_end : (w l at : ℕ) (s : List ℕ) (f : Frame) (u : ℕ) → length s ≤ at → ran f u (gives finished) ≡ ranOf w (read_list l 0 (drop at s)) f u
-unfolding list_by doStmts
+pub run_end : (w l at : ℕ) (s : List ℕ) (f : Frame) (u : ℕ) → length s ≤ at → ran f u (gives finished) ≡ ran_of w (read_list l 0 (drop at s)) f u
+unfolding list_by do_stmts
 run_end w l at s f u h = rw (drop_of_length-le s h)
 
 -- ## An else
 
-pub else-none : (w l at : ℕ) (s : List ℕ) (f : Frame) (u : ℕ) → length s ≤ at → ran f u (gives finished) ≡ ranOf w (readElse (read_list l) 0 (drop at s)) f u
-unfolding readElse doStmts
+pub else-none : (w l at : ℕ) (s : List ℕ) (f : Frame) (u : ℕ) → length s ≤ at → ran f u (gives finished) ≡ ran_of w (read_else (read_list l) 0 (drop at s)) f u
+unfolding read_else do_stmts
 else-none w l at s f u h = rw (drop_of_length-le s h)
 
-pub else-other : (w l at : ℕ) (s : List ℕ) (f : Frame) (u : ℕ) → at < length s → (get_or s at 0 ≡ 0xA1 → ⊥) → ran f u (gives finished) ≡ ranOf w (readElse (read_list l) 0 (drop at s)) f u
-unfolding readElse doStmts
+pub else-other : (w l at : ℕ) (s : List ℕ) (f : Frame) (u : ℕ) → at < length s → (get_or s at 0 ≡ 0xA1 → ⊥) → ran f u (gives finished) ≡ ran_of w (read_else (read_list l) 0 (drop at s)) f u
+unfolding read_else do_stmts
 else-other w l at s f u h ne = rw (here s at h, ne_eqb (get_or s at 0) 0xA1 ne)
 
-module _ (l at : ℕ) (s : List ℕ) (lt : at < length s) (eq : get_or s at 0 ≡ 0xA1) (acc : Accepts (readElse (read_list l) 0 (drop at s))) where
-  else-eq : readElse (read_list l) 0 (drop at s) ≡ elseBy (read_list l) 1 (drop (at + 1) s) true
-  unfolding readElse
+module _ (l at : ℕ) (s : List ℕ) (lt : at < length s) (eq : get_or s at 0 ≡ 0xA1) (acc : Accepts (read_else (read_list l) 0 (drop at s))) where
+  else-eq : read_else (read_list l) 0 (drop at s) ≡ else_by (read_list l) 1 (drop (at + 1) s) true
+  unfolding read_else
   else-eq = rw (here s at lt, eq)
 
   pub else-package : Accepts (read_package 0 (drop (at + 1) s))
   else-package =
-      acc-ok (readElse (read_list l) 0 (drop at s)) acc λ es k e.
+      acc-ok (read_else (read_list l) 0 (drop at s)) acc λ es k e.
       and-by (read_package 1 (drop (at + 1) s)) _ (sym else-eq ∙ e) λ w e₁ e₂.
       is-acc (package-any 1 0 (drop (at + 1) s) w e₁)
 
@@ -151,23 +151,23 @@ module _ (l at : ℕ) (s : List ℕ) (lt : at < length s) (eq : get_or s at 0 �
     abbrev else-body : Answer (Read Stmts)
     else-body = read_list l 0 (take (at + 1 + w.raw - (at + 1 + w.used)) (drop (at + 1 + w.used) s))
 
-    else-open : {X : Type 0} → ((es : Stmts) (j : ℕ) → else-body ≡ reads es j → readElse (read_list l) 0 (drop at s) ≡ reads es (suc w.raw) → X) → X
+    else-open : {X : Type 0} → ((es : Stmts) (j : ℕ) → else-body ≡ reads es j → read_else (read_list l) 0 (drop at s) ≡ reads es (suc w.raw) → X) → X
     else-open g =
         let e₀ : read_package 1 (drop (at + 1) s) ≡ gives w = package-any 0 1 (drop (at + 1) s) w (sym ew) in
         let q : w.raw - w.used ≡ at + 1 + w.raw - (at + 1 + w.used) = omega arith in
-        let e₁ : readElse (read_list l) 0 (drop at s) ≡ then_read (read_list l (1 + w.used) (take (at + 1 + w.raw - (at + 1 + w.used)) (drop (at + 1 + w.used) s))) (λ xs _. reads xs (suc w.raw)) =
+        let e₁ : read_else (read_list l) 0 (drop at s) ≡ then_read (read_list l (1 + w.used) (take (at + 1 + w.raw - (at + 1 + w.used)) (drop (at + 1 + w.used) s))) (λ xs _. reads xs (suc w.raw)) =
         else-eq ∙ rw (e₀, q, drop-drop w.used (at + 1) s) in
-        acc-ok (readElse (read_list l) 0 (drop at s)) acc λ es k e.
+        acc-ok (read_else (read_list l) 0 (drop at s)) acc λ es k e.
         then_by (read_list l (1 + w.used) (take (at + 1 + w.raw - (at + 1 + w.used)) (drop (at + 1 + w.used) s))) _ (sym e₁ ∙ e) λ ys j e₂ e₃.
         g ys j (list_any l (1 + w.used) 0 (take (at + 1 + w.raw - (at + 1 + w.used)) (drop (at + 1 + w.used) s)) ys j e₂) (e₁ ∙ rw e₂)
 
     pub else-acc : Accepts else-body
     else-acc = else-open λ es j e₁ e₂. is-acc e₁
 
-    pub else-next : gives (at + 1 + w.raw) ≡ up_to at (readElse (read_list l) 0 (drop at s))
+    pub else-next : gives (at + 1 + w.raw) ≡ up_to at (read_else (read_list l) 0 (drop at s))
     else-next = else-open λ es j e₁ e₂. rw e₂ (ap gives (omega arith))
 
-    pub else-ran : (v : ℕ) (f : Frame) (u : ℕ) (x : Ran Frame Ended) → x ≡ ranOf v else-body f u → x ≡ ranOf v (readElse (read_list l) 0 (drop at s)) f u
+    pub else-ran : (v : ℕ) (f : Frame) (u : ℕ) (x : Ran Frame Ended) → x ≡ ran_of v else-body f u → x ≡ ran_of v (read_else (read_list l) 0 (drop at s)) f u
     else-ran v f u x h = else-open λ es j e₁ e₂. rw e₂ (rw e₁ at h)
 
 -- ## A predicate and its body
@@ -215,20 +215,20 @@ module _ (l at : ℕ) (s : List ℕ) (acc : Accepts (read_head (read_list l) 0 (
     pub turns-ok : TurnsOk l s (at + w.raw) (at + w.used) test-term
     turns-ok = head-open (λ t k xs j e₁ le e₂ e₃. rw e₁ (le, is-acc e₂))
 
-    pub while-ran : (v : ℕ) (f : Frame) (u : ℕ) (r : Ran Frame Ended) (z : Ran Frame Way) → r ≡ turnsBy l s (at + w.raw) (at + w.used) v test-term f u →
-        z ≡ step_at (at + w.raw) r → z ≡ whileDo v at (read_head (read_list l) 0 (drop at s)) f u
-    unfolding doStmt
+    pub while-ran : (v : ℕ) (f : Frame) (u : ℕ) (r : Ran Frame Ended) (z : Ran Frame Way) → r ≡ turns_by l s (at + w.raw) (at + w.used) v test-term f u →
+        z ≡ step_at (at + w.raw) r → z ≡ while_do v at (read_head (read_list l) 0 (drop at s)) f u
+    unfolding do_stmt
     while-ran v f u r z h e =
         head-open λ t k xs j e₁ le e₂ e₃.
-        let h₂ : r ≡ turns (eval frames v t) (λ g y. ranOf v (bodyFrom l s (at + w.raw) (at + w.used) (at + w.used + k)) g y) (suc u) f u = rw e₁ at h in
-        let h₃ : r ≡ doStmt frames v (while t xs) f u = h₂ ∙ ap (λ (R : Answer (Read Stmts)). turns (eval frames v t) (λ g y. ranOf v R g y) (suc u) f u) e₂ in
-        e ∙ ap (step_at (at + w.raw)) h₃ ∙ sym (ap (λ (R : Answer (Read Head)). whileDo v at R f u) e₃)
+        let h₂ : r ≡ turns (eval frames v t) (λ g y. ran_of v (body_from l s (at + w.raw) (at + w.used) (at + w.used + k)) g y) (suc u) f u = rw e₁ at h in
+        let h₃ : r ≡ do_stmt frames v (while t xs) f u = h₂ ∙ ap (λ (R : Answer (Read Stmts)). turns (eval frames v t) (λ g y. ran_of v R g y) (suc u) f u) e₂ in
+        e ∙ ap (step_at (at + w.raw)) h₃ ∙ sym (ap (λ (R : Answer (Read Head)). while_do v at R f u) e₃)
 
 -- ## An If
 
-module _ (l at : ℕ) (s : List ℕ) (acc : Accepts (readIf (read_list l) 0 (drop at s))) where
+module _ (l at : ℕ) (s : List ℕ) (acc : Accepts (read_if (read_list l) 0 (drop at s))) where
   pub if-head : Accepts (read_head (read_list l) 0 (drop at s))
-  unfolding readIf
+  unfolding read_if
   if-head = acc-then (read_head (read_list l) 0 (drop at s)) _ acc
 
   module _ (w : Raw) (ew : gives w ≡ read_package 0 (drop at s)) where
@@ -236,26 +236,26 @@ module _ (l at : ℕ) (s : List ℕ) (acc : Accepts (readIf (read_list l) 0 (dro
     if-term = read_term depth_limit 0 (drop (at + w.used) s)
 
     abbrev if-rest : Answer (Read Stmts)
-    if-rest = readElse (read_list l) 0 (drop (at + w.raw) s)
+    if-rest = read_else (read_list l) 0 (drop (at + w.raw) s)
 
     if-open : {X : Type 0} → ((t : Term) (k : ℕ) (xs : Stmts) (q : ℕ) (ys : Stmts) (j : ℕ) → if-term ≡ reads t k →
         at + w.used + k ≤ at + w.raw → read_list l 0 (take (at + w.raw - (at + w.used + k)) (drop (at + w.used + k) s)) ≡ reads xs q →
-        if-rest ≡ reads ys j → readIf (read_list l) 0 (drop at s) ≡ reads (if_else t xs ys) (w.raw + j) → X) → X
-    unfolding readIf
+        if-rest ≡ reads ys j → read_if (read_list l) 0 (drop at s) ≡ reads (if_else t xs ys) (w.raw + j) → X) → X
+    unfolding read_if
     if-open g =
         head-open l at s if-head w ew λ t k xs q e₁ le e₂ e₃.
-        let e₄ : readIf (read_list l) 0 (drop at s) ≡ then_read (readElse (read_list l) (0 + w.raw) (drop (at + w.raw) s)) (λ ys j. reads (if_else t xs ys) (w.raw + j)) =
+        let e₄ : read_if (read_list l) 0 (drop at s) ≡ then_read (read_else (read_list l) (0 + w.raw) (drop (at + w.raw) s)) (λ ys j. reads (if_else t xs ys) (w.raw + j)) =
         rw (e₃, drop-drop w.raw at s) in
-        acc-ok (readIf (read_list l) 0 (drop at s)) acc λ x m ex.
-        then_by (readElse (read_list l) (0 + w.raw) (drop (at + w.raw) s)) _ (sym e₄ ∙ ex) λ ys j e₅ e₆.
+        acc-ok (read_if (read_list l) 0 (drop at s)) acc λ x m ex.
+        then_by (read_else (read_list l) (0 + w.raw) (drop (at + w.raw) s)) _ (sym e₄ ∙ ex) λ ys j e₅ e₆.
         g t k xs q ys j e₁ le e₂ (else-any l (0 + w.raw) 0 (drop (at + w.raw) s) ys j e₅) (e₄ ∙ rw e₅)
 
     pub if-else-acc : Accepts if-rest
     if-else-acc = if-open (λ t k xs q ys j e₁ le e₂ e₃ e₄. is-acc e₃)
 
     module _ (b : ℕ) (f g : Frame) (u : ℕ) (v : Value) (ev : ran g 0 (value_said v) ≡ evaled_by (eval frames b) (at + w.used) if-term f) where
-      pub if-missing : (c : ℕ) → v ≡ Missing c → ran g u (refuses 23 c) ≡ stepDo b at (readIf (read_list l) 0 (drop at s)) f u
-      unfolding doStmt
+      pub if-missing : (c : ℕ) → v ≡ Missing c → ran g u (refuses 23 c) ≡ step_do b at (read_if (read_list l) 0 (drop at s)) f u
+      unfolding do_stmt
       if-missing c h =
           if-open λ t k xs q ys j e₁ le e₂ e₃ e₄.
           rw (e₄, with-units frames b t f g _ (ev-missing (eval frames b) (at + w.used) if-term f g v ev t k e₁ c h) u)
@@ -274,20 +274,20 @@ module _ (l at : ℕ) (s : List ℕ) (acc : Accepts (readIf (read_list l) 0 (dro
               let q : next ≡ at + w.raw + j = cc in
               omega arith
 
-          pub if-zero : x ≡ 0 → r ≡ ranOf b if-rest g u → z ≡ stepDo b at (readIf (read_list l) 0 (drop at s)) f u
-          unfolding doStmt
+          pub if-zero : x ≡ 0 → r ≡ ran_of b if-rest g u → z ≡ step_do b at (read_if (read_list l) 0 (drop at s)) f u
+          unfolding do_stmt
           if-zero e0 er =
               if-open λ t k xs q ys j e₁ le e₂ e₃ e₄.
               let y = ev-num (eval frames b) (at + w.used) if-term f g v ev t k e₁ x m h in
               rw (e₄, with-units frames b t f g _ y.1 u, eq-eqb x 0 e0, ← (next-is ys j e₃)) (ez ∙ ap (step_at next) (rw e₃ at er))
 
-          pub if-true : (x ≡ 0 → ⊥) → r ≡ ranOf b (read_list l 0 (take (at + w.raw - m) (drop m s))) g u → z ≡ stepDo b at (readIf (read_list l) 0 (drop at s)) f u
-          unfolding doStmt
+          pub if-true : (x ≡ 0 → ⊥) → r ≡ ran_of b (read_list l 0 (take (at + w.raw - m) (drop m s))) g u → z ≡ step_do b at (read_if (read_list l) 0 (drop at s)) f u
+          unfolding do_stmt
           if-true ne er =
               if-open λ t k xs q ys j e₁ le e₂ e₃ e₄.
               let y = ev-num (eval frames b) (at + w.used) if-term f g v ev t k e₁ x m h in
-              let er₂ : r ≡ doStmts frames b xs g u =
-              er ∙ ap (λ (i : ℕ). ranOf b (read_list l 0 (take (at + w.raw - i) (drop i s))) g u) y.0 ∙ ap (λ (R : Answer (Read Stmts)). ranOf b R g u) e₂ in
+              let er₂ : r ≡ do_stmts frames b xs g u =
+              er ∙ ap (λ (i : ℕ). ran_of b (read_list l 0 (take (at + w.raw - i) (drop i s))) g u) y.0 ∙ ap (λ (R : Answer (Read Stmts)). ran_of b R g u) e₂ in
               rw (e₄, with-units frames b t f g _ y.1 u, ne_eqb x 0 ne, ← (next-is ys j e₃)) (ez ∙ ap (step_at next) er₂)
 
 -- ## Turns
@@ -313,7 +313,7 @@ module _ (l e at : ℕ) (s : List ℕ) (tok : TurnsOk l s e at (read_term depth_
   abbrev predicate : Answer (Read Term)
   predicate = read_term depth_limit 0 (drop at s)
 
-  turn-open : {X : Type 0} → ((t : Term) (k : ℕ) → predicate ≡ reads t k → at + k ≤ e → Accepts (bodyFrom l s e at (at + k)) → X) → X
+  turn-open : {X : Type 0} → ((t : Term) (k : ℕ) → predicate ≡ reads t k → at + k ≤ e → Accepts (body_from l s e at (at + k)) → X) → X
   turn-open {X} g = go predicate refl tok
     where
       go : (R : Answer (Read Term)) → predicate ≡ R → TurnsOk l s e at R → X
@@ -345,34 +345,34 @@ module _ (l e at : ℕ) (s : List ℕ) (tok : TurnsOk l s e at (read_term depth_
           let y = ev-num (eval frames b) at predicate f g v ev t k e₁ x m h in
           rw (e₁, eu, with-units frames b t f g _ y.1 w, eq-eqb x 0 e0)
 
-      pub turn-true : (x ≡ 0 → ⊥) → (r : Ran Frame Ended) → r ≡ ranOf b (read_list l 0 (take (e - m) (drop m s))) g w → turn_part_at r ≡ turn_of l s e at b predicate f u
+      pub turn-true : (x ≡ 0 → ⊥) → (r : Ran Frame Ended) → r ≡ ran_of b (read_list l 0 (take (e - m) (drop m s))) g w → turn_part_at r ≡ turn_of l s e at b predicate f u
       turn-true ne r er =
           turn-open λ t k e₁ le a.
           let y = ev-num (eval frames b) at predicate f g v ev t k e₁ x m h in
-          let er₂ : r ≡ ranOf b (bodyFrom l s e at (at + k)) g w = er ∙ ap (λ (i : ℕ). ranOf b (read_list l 0 (take (e - i) (drop i s))) g w) y.0 in
+          let er₂ : r ≡ ran_of b (body_from l s e at (at + k)) g w = er ∙ ap (λ (i : ℕ). ran_of b (read_list l 0 (take (e - i) (drop i s))) g w) y.0 in
           rw (e₁, eu, with-units frames b t f g _ y.1 w, ne_eqb x 0 ne) (ap turn_part_at er₂)
 
   -- the turns from here on
   abbrev by : Frame → ℕ → Ran Frame Ended
-  by f u = turnsBy l s e at b predicate f u
+  by f u = turns_by l s e at b predicate f u
 
   module _ (f g : Frame) (u v : ℕ) (o : Out) (eo : turn_part_at (ran g v (out_said o)) ≡ turn_of l s e at b predicate f u) where
     module _ (t : Term) (j : ℕ) (e₁ : predicate ≡ reads t j) where
       abbrev body : Frame → ℕ → Ran Frame Ended
-      body h y = ranOf b (bodyFrom l s e at (at + j)) h y
+      body h y = ran_of b (body_from l s e at (at + j)) h y
 
-      is-turn : turn_part_at (ran g v (out_said o)) ≡ oneTurn (eval frames b t) body f u
+      is-turn : turn_part_at (ran g v (out_said o)) ≡ one_turn (eval frames b t) body f u
       is-turn = rw e₁ at eo
 
       by_turn : by f u ≡ then_do (turn_part_at (ran g v (out_said o))) (λ d h y. after_turn d (λ i z. turns (eval frames b t) body (suc z) i z) h y)
       by_turn =
-          rw e₁ (turns_next (eval frames b t) body (term-left frames b t) (λ h y. ran-left b (bodyFrom l s e at (at + j)) h y) (suc u) f u (omega arith) ∙ rw (← is-turn))
+          rw e₁ (turns_next (eval frames b t) body (term-left frames b t) (λ h y. ran-left b (body_from l s e at (at + j)) h y) (suc u) f u (omega arith) ∙ rw (← is-turn))
 
     pub turns-again : does_turn_on o ≡ true → (v < u) × (by f u ≡ by g v)
     turns-again h =
         turn-open λ t j e₁ le a.
         let q = turn-again o g v h in (
-          turn-less (eval frames b t) (body t j e₁) (term-left frames b t) (λ h y. ran-left b (bodyFrom l s e at (at + j)) h y) f g u v again (sym (is-turn t j e₁) ∙ q),
+          turn-less (eval frames b t) (body t j e₁) (term-left frames b t) (λ h y. ran-left b (body_from l s e at (at + j)) h y) f g u v again (sym (is-turn t j e₁) ∙ q),
           by_turn t j e₁ ∙ rw (q, e₁),
         )
 
@@ -381,7 +381,7 @@ module _ (l e at : ℕ) (s : List ℕ) (tok : TurnsOk l s e at (read_term depth_
 
 -- ## A statement by its opcode
 
-of-do : (b at : ℕ) (R : Answer (Read Stmt)) (f : Frame) (u w : ℕ) (x : Ran Frame Way) → Accepts R → u ≡ suc w → x ≡ stepDo b at R f w → x ≡ step_of b at R f u
+of-do : (b at : ℕ) (R : Answer (Read Stmt)) (f : Frame) (u w : ℕ) (x : Ran Frame Way) → Accepts R → u ≡ suc w → x ≡ step_do b at R f w → x ≡ step_of b at R f u
 of-do b at (gives (took y k)) f u w x acc e h = rw e h
 of-do b at (refuses n p) f u w x acc e h = absurd acc
 
@@ -402,12 +402,12 @@ module _ (l at : ℕ) (s : List ℕ) (lt : at < length s) (acc : Accepts (read_s
 
   module _ (r o : StmtOp) (e : r ≡ stmt_op_at (get_or s at 0)) (q : r ≡ o) where
     abbrev reading : Answer (Read Stmt)
-    reading = stmtBy (read_list (l - 1)) (get_or s at 0) 0 (drop (at + 1) s) o
+    reading = stmt_by (read_list (l - 1)) (get_or s at 0) 0 (drop (at + 1) s) o
 
     pub op-acc : Accepts reading
     op-acc = acc-same (stmt-is-by l 0 at s r o stmt-left lt e q) acc
 
-    pub run-arm : (b : ℕ) (f : Frame) (u : ℕ) (x : Ran Frame Way) → (u ≡ 0 → ⊥) → x ≡ stepDo b at reading f (u - 1) → x ≡ step_of b at (read_stmt l 0 (drop at s)) f u
+    pub run-arm : (b : ℕ) (f : Frame) (u : ℕ) (x : Ran Frame Way) → (u ≡ 0 → ⊥) → x ≡ step_do b at reading f (u - 1) → x ≡ step_of b at (read_stmt l 0 (drop at s)) f u
     run-arm b f u x ne h =
         let z : u ≡ suc (u - 1) = omega arith in
         of-do b at reading f u (u - 1) x op-acc z h ∙ sym (ap (λ (R : Answer (Read Stmt)). step_of b at R f u) (stmt-is-by l 0 at s r o stmt-left lt e q))
@@ -422,22 +422,22 @@ plain-to f u at Continue = refl
 plain-to f u at BreakPoint = refl
 plain-to f u at Noop = refl
 
-pub plain-do : (b at : ℕ) (f : Frame) (u : ℕ) (o : Plain) (x : Moved) → x ≡ plain_to o u (at + 1) → step_f f x ≡ stepDo b at (reads (plain o) 1) f u
-unfolding doStmt
+pub plain-do : (b at : ℕ) (f : Frame) (u : ℕ) (o : Plain) (x : Moved) → x ≡ plain_to o u (at + 1) → step_f f x ≡ step_do b at (reads (plain o) 1) f u
+unfolding do_stmt
 plain-do b at f u o x e = ap (step_f f) e ∙ plain-to f u at o
 
 -- a statement of one term: its value, and then the end
 module _ (b : ℕ) (f g : Frame) (u at n : ℕ) (R : Answer (Read Term)) (v : Value) (ev : ran g 0 (value_said v) ≡ evaled_by (eval frames b) at R f) (t : Term) (k : ℕ) (e : R ≡ reads t k) where
-  return-ran : step_f g (return_to v u) ≡ step_at n (doStmt frames b (return t) f u)
-  unfolding doStmt
+  return-ran : step_f g (return_to v u) ≡ step_at n (do_stmt frames b (return t) f u)
+  unfolding do_stmt
   return-ran = go v refl
     where
       go : (z : Value) → v ≡ z → step_f g (return_to z u) ≡ step_at n (then_do (eval frames b t f u) (λ n t v. ran t v (gives (returned n))))
       go (Num x m) h = rw (with-units frames b t f g _ (ev-num (eval frames b) at R f g v ev t k e x m h).1 u)
       go (Missing c) h = rw (with-units frames b t f g _ (ev-missing (eval frames b) at R f g v ev t k e c h) u)
 
-  expr-ran : step_f g (drop_to v u) ≡ step_at (at + k) (doStmt frames b (expr t) f u)
-  unfolding doStmt
+  expr-ran : step_f g (drop_to v u) ≡ step_at (at + k) (do_stmt frames b (expr t) f u)
+  unfolding do_stmt
   expr-ran = go v refl
     where
       go : (z : Value) → v ≡ z → step_f g (drop_to z u) ≡ step_at (at + k) (then_do (eval frames b t f u) (λ n t v. ran t v (gives finished)))
@@ -452,27 +452,27 @@ module _ (b at : ℕ) (s : List ℕ) (f : Frame) (u : ℕ) where
   ret-acc acc = acc-ok (read_term depth_limit 1 s) (acc-then (read_term depth_limit 1 s) _ acc) λ t k e. is-acc (term-any depth_limit 1 0 s t k e)
 
   pub ret-do : (g : Frame) (v : Value) (x : Moved) → Accepts (read_term depth_limit 0 s) → ran g 0 (value_said v) ≡ evaled_by (eval frames b) (at + 1) (read_term depth_limit 0 s) f →
-      x ≡ return_to v u → step_f g x ≡ stepDo b at (then_read (read_term depth_limit 1 s) (λ t k. reads (return t) (suc k))) f u
+      x ≡ return_to v u → step_f g x ≡ step_do b at (then_read (read_term depth_limit 1 s) (λ t k. reads (return t) (suc k))) f u
   ret-do g v x acc ev h =
       acc-ok (read_term depth_limit 0 s) acc λ t k e.
       rw (term-any depth_limit 0 1 s t k e) (ap (step_f g) h ∙ return-ran b f g u (at + 1) (at + suc k) (read_term depth_limit 0 s) v ev t k e)
 
   module _ (l : ℕ) where
-    pub if-acc : Accepts (then_read (readIf (read_list l) 1 s) (λ y k. reads y (suc k))) → Accepts (readIf (read_list l) 0 s)
-    if-acc acc = acc-ok (readIf (read_list l) 1 s) (acc-then (readIf (read_list l) 1 s) _ acc) λ y k e. is-acc (if-any l 1 0 s y k e)
+    pub if-acc : Accepts (then_read (read_if (read_list l) 1 s) (λ y k. reads y (suc k))) → Accepts (read_if (read_list l) 0 s)
+    if-acc acc = acc-ok (read_if (read_list l) 1 s) (acc-then (read_if (read_list l) 1 s) _ acc) λ y k e. is-acc (if-any l 1 0 s y k e)
 
-    pub if-do : (x : Ran Frame Way) → Accepts (readIf (read_list l) 0 s) → x ≡ stepDo b (at + 1) (readIf (read_list l) 0 s) f u →
-        x ≡ stepDo b at (then_read (readIf (read_list l) 1 s) (λ y k. reads y (suc k))) f u
+    pub if-do : (x : Ran Frame Way) → Accepts (read_if (read_list l) 0 s) → x ≡ step_do b (at + 1) (read_if (read_list l) 0 s) f u →
+        x ≡ step_do b at (then_read (read_if (read_list l) 1 s) (λ y k. reads y (suc k))) f u
     if-do x acc h =
-        acc-ok (readIf (read_list l) 0 s) acc λ y k e.
+        acc-ok (read_if (read_list l) 0 s) acc λ y k e.
         let q : at + 1 + k ≡ at + suc k = omega arith in
         rw (if-any l 0 1 s y k e) (h ∙ rw (e, q))
 
     pub while-acc : Accepts (then_read (read_head (read_list l) 1 s) (λ h k. reads (while_of h) (suc k))) → Accepts (read_head (read_list l) 0 s)
     while-acc acc = acc-ok (read_head (read_list l) 1 s) (acc-then (read_head (read_list l) 1 s) _ acc) λ y k e. is-acc (head-any l 1 0 s y k e)
 
-    pub while-do : (x : Ran Frame Way) → Accepts (read_head (read_list l) 0 s) → x ≡ whileDo b (at + 1) (read_head (read_list l) 0 s) f u →
-        x ≡ stepDo b at (then_read (read_head (read_list l) 1 s) (λ h k. reads (while_of h) (suc k))) f u
+    pub while-do : (x : Ran Frame Way) → Accepts (read_head (read_list l) 0 s) → x ≡ while_do b (at + 1) (read_head (read_list l) 0 s) f u →
+        x ≡ step_do b at (then_read (read_head (read_list l) 1 s) (λ h k. reads (while_of h) (suc k))) f u
     while-do x acc h =
         acc-ok (read_head (read_list l) 0 s) acc λ y k e.
         let q : at + 1 + k ≡ at + suc k = omega arith in
@@ -484,7 +484,7 @@ module _ (at : ℕ) (s : List ℕ) (lt : at < length s) (acc : Accepts (then_rea
   expr-acc = rw (here s at lt) (acc-then (read_term depth_limit 0 (get_or s at 0 ∷ drop (at + 1) s)) _ acc)
 
   pub expr-do : (b : ℕ) (f g : Frame) (u : ℕ) (v : Value) (x : Moved) → ran g 0 (value_said v) ≡ evaled_by (eval frames b) at (read_term depth_limit 0 (drop at s)) f →
-      x ≡ drop_to v u → step_f g x ≡ stepDo b at (then_read (read_term depth_limit 0 (get_or s at 0 ∷ drop (at + 1) s)) (λ t k. reads (expr t) k)) f u
+      x ≡ drop_to v u → step_f g x ≡ step_do b at (then_read (read_term depth_limit 0 (get_or s at 0 ∷ drop (at + 1) s)) (λ t k. reads (expr t) k)) f u
   expr-do b f g u v x ev h =
       acc-ok (read_term depth_limit 0 (drop at s)) expr-acc λ t k e.
       rw (rw (here s at lt) at e) (ap (step_f g) h ∙ expr-ran b f g u at 0 (read_term depth_limit 0 (drop at s)) v ev t k e)

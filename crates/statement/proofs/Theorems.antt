@@ -13,7 +13,7 @@ use Rattle.grammar.specs.Reader.{Read, read_list, read_block}
 use Rattle.statement.specs.Frames.{bits, begun}
 use Rattle.statement.specs.Meaning.{Ended, finished, returned, break_out, continue_out, ran, Outcome, outcome, mean}
 use Rattle.grammar.specs.Said.{Accepts}
-use Rattle.statement.specs.Lent.{ranOf}
+use Rattle.statement.specs.Lent.{ran_of}
 use Rattle.grammar.specs.Promise.{Derives, check_said, Checked}
 use Rattle.statement.specs.Promise.{end_said, run_said, HasRun}
 use Rattle.grammar.proofs.Statements.{lists-complete}
@@ -47,14 +47,14 @@ run-from-refusal s f budget v e c q =
 
 -- from what the code ran
 pub run-from-meaning : (s : List ℕ) (f : Frame) (budget : ℕ) (v : CheckAnswer) (g : Frame) (u : ℕ) (a : Answer Ended) (e : End) → Checked s v → v ≡ CheckAnswer.Accepted →
-    ran g u a ≡ ranOf (bits f.width) (read_list depth_limit 0 s) (begun f) budget → end_said e ≡ a → HasRun s f budget (record { began = true; end = e; units = budget - u; frame = g })
+    ran g u a ≡ ran_of (bits f.width) (read_list depth_limit 0 s) (begun f) budget → end_said e ≡ a → HasRun s f budget (record { began = true; end = e; units = budget - u; frame = g })
 run-from-meaning s f budget v g u a e c q ex ee =
     record {
       stopped = λ n p h. absurd (let (t, d) = c.reading q in refused-is-underived s n p h t d);
       started = λ t d. refl;
       refusal = λ n p h. absurd (let (t, d) = c.reading q in refused-is-underived s n p h t d);
       meaning = λ t d.
-          rw ee (ap (outcome budget) (ex ∙ ap (λ (R : Answer (Read Stmts)). ranOf (bits f.width) R (begun f) budget) (lists-complete depth_limit t s d.derived 0)));
+          rw ee (ap (outcome budget) (ex ∙ ap (λ (R : Answer (Read Stmts)). ran_of (bits f.width) R (begun f) budget) (lists-complete depth_limit t s d.derived 0)));
     }
 
 -- a run of a block that nothing derives: the definition's refusal, the frame as it came, no unit

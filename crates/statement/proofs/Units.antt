@@ -2,7 +2,7 @@
 use Rattle.std.proofs.Common.{◌≡◌, ℕ, zero, suc, ◌<◌, ◌≤◌, Bool, true, false, cond, eqb, refl, ap, ◌∙◌, arith}
 use Rattle.pkg_length.specs.Refusal.{Answer, gives, refuses}
 use Rattle.grammar.specs.Tree.{Target, nowhere, to, Term, const, read, step, one, two, Stmt, plain, return, if_else, while, expr, Stmts, nil, cons}
-use Rattle.statement.specs.Meaning.{Memory, Ran, ran, then_do, spend, Ended, finished, returned, break_out, continue_out, go_on, Go, again, over, go_of, after_turn, oneTurn, turns, saved, fetch, put, eval, doStmt, doStmts}
+use Rattle.statement.specs.Meaning.{Memory, Ran, ran, then_do, spend, Ended, finished, returned, break_out, continue_out, go_on, Go, again, over, go_of, after_turn, one_turn, turns, saved, fetch, put, eval, do_stmt, do_stmts}
 
 unfoldable pub left_of : {S A : Type 0} → Ran S A → ℕ
 left_of (ran s u a) = u
@@ -46,11 +46,11 @@ module _ {S : Type 0} (p : S → ℕ → Ran S ℕ) (body : S → ℕ → Ran S 
       then-left (p s u) _ u (hp s u) λ n t w.
       cond-left (eqb n 0) _ _ w (omega arith) (then-left (body t w) _ w (hb t w) λ e x y. omega arith)
 
-  turn-left : (s : S) (u : ℕ) → left_of (oneTurn p body s u) ≤ u
+  turn-left : (s : S) (u : ℕ) → left_of (one_turn p body s u) ≤ u
   turn-left s u = spend-left s u _ (tested-left s)
 
   -- a turn that asks for another has used a unit
-  pub turn-less : (s t : S) (u v : ℕ) (g : Go) → oneTurn p body s u ≡ ran t v (gives g) → v < u
+  pub turn-less : (s t : S) (u v : ℕ) (g : Go) → one_turn p body s u ≡ ran t v (gives g) → v < u
   unfolding left_of
   turn-less s t zero v g e = absurd (let z : ◌≡◌ {A = ℕ} 0 1 = cc in omega arith)
   turn-less s t (suc u) v g e = omega (arith, tested-left s u, ap left_of e)
@@ -58,14 +58,14 @@ module _ {S : Type 0} (p : S → ℕ → Ran S ℕ) (body : S → ℕ → Ran S 
   turns-left : (k : ℕ) (s : S) (u : ℕ) → left_of (turns p body k s u) ≤ u
   unfolding turns left_of
   turns-left zero s u = omega arith
-  turns-left (suc k) s u = then-left (oneTurn p body s u) _ u (turn-left s u) λ g t v. after-left g (turns p body k) (turns-left k) t v
+  turns-left (suc k) s u = then-left (one_turn p body s u) _ u (turn-left s u) λ g t v. after-left g (turns p body k) (turns-left k) t v
 
   -- what follows a turn is asked for with fewer units
   turn_by : (s : S) (u : ℕ) (x y : S → ℕ → Ran S Ended) → ((t : S) (v : ℕ) → v < u → x t v ≡ y t v) →
-      then_do (oneTurn p body s u) (λ g t v. after_turn g x t v) ≡ then_do (oneTurn p body s u) (λ g t v. after_turn g y t v)
-  turn_by s u x y h = go (oneTurn p body s u) refl
+      then_do (one_turn p body s u) (λ g t v. after_turn g x t v) ≡ then_do (one_turn p body s u) (λ g t v. after_turn g y t v)
+  turn_by s u x y h = go (one_turn p body s u) refl
     where
-      go : (r : Ran S Go) → oneTurn p body s u ≡ r → then_do r (λ g t v. after_turn g x t v) ≡ then_do r (λ g t v. after_turn g y t v)
+      go : (r : Ran S Go) → one_turn p body s u ≡ r → then_do r (λ g t v. after_turn g x t v) ≡ then_do r (λ g t v. after_turn g y t v)
       go (ran t v (gives again)) e = h t v (turn-less s t u v again e)
       go (ran t v (gives (over d))) e = refl
       go (ran t v (refuses n q)) e = refl
@@ -78,7 +78,7 @@ module _ {S : Type 0} (p : S → ℕ → Ran S ℕ) (body : S → ℕ → Ran S 
   turns-enough (suc k) (suc j) s u h i = turn_by s u (turns p body k) (turns p body j) (λ t v l. turns-enough k j t v (omega arith) (omega arith))
 
   -- the turns with fuel enough, as one turn and the turns after it
-  pub turns_next : (k : ℕ) (s : S) (u : ℕ) → u < k → turns p body k s u ≡ then_do (oneTurn p body s u) (λ g t v. after_turn g (λ y z. turns p body (suc z) y z) t v)
+  pub turns_next : (k : ℕ) (s : S) (u : ℕ) → u < k → turns p body k s u ≡ then_do (one_turn p body s u) (λ g t v. after_turn g (λ y z. turns p body (suc z) y z) t v)
   unfolding turns
   turns_next zero s u h = absurd (omega arith)
   turns_next (suc k) s u h = turn_by s u (turns p body k) (λ y z. turns p body (suc z) y z) (λ t v l. turns-enough k (suc v) t v (omega arith) (omega arith))
@@ -104,27 +104,27 @@ module _ (m : Memory) (w : ℕ) where
       then-left (eval m w a s u) _ u (term-left a s u) λ n t v. then-left (eval m w b t v) _ v (term-left b t v) λ k y z. put-left x _ y z
 
   mutual
-    unfolding doStmt left_of
+    unfolding do_stmt left_of
 
-    stmt-left : (x : Stmt) (s : m.State) (u : ℕ) → left_of (doStmt m w x s u) ≤ u
+    stmt-left : (x : Stmt) (s : m.State) (u : ℕ) → left_of (do_stmt m w x s u) ≤ u
     stmt-left (plain o) s u = omega arith
     stmt-left (return a) s u = then-left (eval m w a s u) _ u (term-left a s u) λ n t v. omega arith
     stmt-left (if_else a xs ys) s u =
-        then-left (eval m w a s u) _ u (term-left a s u) λ n t v. cond-left (eqb n 0) (doStmts m w ys t v) (doStmts m w xs t v) v (list_left ys t v) (list_left xs t v)
-    stmt-left (while a xs) s u = turns-left (eval m w a) (λ t v. doStmts m w xs t v) (term-left a) (λ t v. list_left xs t v) (suc u) s u
+        then-left (eval m w a s u) _ u (term-left a s u) λ n t v. cond-left (eqb n 0) (do_stmts m w ys t v) (do_stmts m w xs t v) v (list_left ys t v) (list_left xs t v)
+    stmt-left (while a xs) s u = turns-left (eval m w a) (λ t v. do_stmts m w xs t v) (term-left a) (λ t v. list_left xs t v) (suc u) s u
     stmt-left (expr a) s u = then-left (eval m w a s u) _ u (term-left a s u) λ n t v. omega arith
 
-    pub list_left : (xs : Stmts) (s : m.State) (u : ℕ) → left_of (doStmts m w xs s u) ≤ u
+    pub list_left : (xs : Stmts) (s : m.State) (u : ℕ) → left_of (do_stmts m w xs s u) ≤ u
     list_left nil s u = omega arith
     list_left (cons x xs) s u =
-        then-left (spend s u (λ v. doStmt m w x s v)) _ u (spend-left s u _ (λ v. stmt-left x s v)) λ e t v.
-        on-left e (λ y z. doStmts m w xs y z) (λ y z. list_left xs y z) t v
+        then-left (spend s u (λ v. do_stmt m w x s v)) _ u (spend-left s u _ (λ v. stmt-left x s v)) λ e t v.
+        on-left e (λ y z. do_stmts m w xs y z) (λ y z. list_left xs y z) t v
 
   -- a While is one turn, and then itself where that asks for another
   pub while-unrolls : (a : Term) (xs : Stmts) (s : m.State) (u : ℕ) →
-      doStmt m w (while a xs) s u ≡ then_do (oneTurn (eval m w a) (λ t v. doStmts m w xs t v) s u) (λ g t v. after_turn g (λ y z. doStmt m w (while a xs) y z) t v)
-  unfolding doStmt
-  while-unrolls a xs s u = turns_next (eval m w a) (λ t v. doStmts m w xs t v) (term-left a) (λ t v. list_left xs t v) (suc u) s u (omega arith)
+      do_stmt m w (while a xs) s u ≡ then_do (one_turn (eval m w a) (λ t v. do_stmts m w xs t v) s u) (λ g t v. after_turn g (λ y z. do_stmt m w (while a xs) y z) t v)
+  unfolding do_stmt
+  while-unrolls a xs s u = turns_next (eval m w a) (λ t v. do_stmts m w xs t v) (term-left a) (λ t v. list_left xs t v) (suc u) s u (omega arith)
 
 -- ## A term takes no unit
 

@@ -18,7 +18,7 @@ use Rattle.statement.specs.declared.exec.Moved.{Moved}
 use Rattle.grammar.specs.Tree.{Target, Term, Stmt, Stmts}
 use Rattle.grammar.specs.Said.{Accepts}
 use Rattle.grammar.specs.Reader.{Read, took, Operand, operand, Operands, one_of, two_of, Head, while_of, read_term, read_package, read_stmt, read_list}
-use Rattle.statement.specs.Meaning.{frames, binary, Ran, ran, then_do, spend, put, eval, Ended, finished, returned, break_out, continue_out, Go, go_of, oneTurn, turns, doStmt, doStmts}
+use Rattle.statement.specs.Meaning.{frames, binary, Ran, ran, then_do, spend, put, eval, Ended, finished, returned, break_out, continue_out, Go, go_of, one_turn, turns, do_stmt, do_stmts}
 
 abbrev pub spanned : Span → Raw
 spanned r = record { raw = r.raw; used = r.used }
@@ -62,15 +62,15 @@ abbrev pub ev_put : ℕ → Target → Frame → ℕ → Ran Frame ℕ
 ev_put n x f u = put frames x n f u
 
 module _ (w : ℕ) where
-  abbrev pub evOne : OneOp → Operand → Frame → ℕ → Ran Frame ℕ
-  evOne o x f u = eval frames w (one_of o x) f u
+  abbrev pub ev_one : OneOp → Operand → Frame → ℕ → Ran Frame ℕ
+  ev_one o x f u = eval frames w (one_of o x) f u
 
-  abbrev pub evTwo : TwoOp → Operands → Frame → ℕ → Ran Frame ℕ
-  evTwo o x f u = eval frames w (two_of o x) f u
+  abbrev pub ev_two : TwoOp → Operands → Frame → ℕ → Ran Frame ℕ
+  ev_two o x f u = eval frames w (two_of o x) f u
 
   -- the second operand, n being the first
-  abbrev pub evSecond : TwoOp → ℕ → Operand → Frame → ℕ → Ran Frame ℕ
-  evSecond o n (operand t x) f u = then_do (eval frames w t f u) (λ m g v. put frames x (binary w o n m) g v)
+  abbrev pub ev_second : TwoOp → ℕ → Operand → Frame → ℕ → Ran Frame ℕ
+  ev_second o n (operand t x) f u = then_do (eval frames w t f u) (λ m g v. put frames x (binary w o n m) g v)
 
 -- ## Statements
 
@@ -121,39 +121,39 @@ turn_in w s v r = turn_part_at (ran_in w s v r)
 
 module _ (w : ℕ) where
   -- a list that was read
-  abbrev pub ranOf : Answer (Read Stmts) → Frame → ℕ → Ran Frame Ended
-  ranOf (gives (took xs k)) f u = doStmts frames w xs f u
-  ranOf (refuses n p) f u = ran f u (refuses n p)
+  abbrev pub ran_of : Answer (Read Stmts) → Frame → ℕ → Ran Frame Ended
+  ran_of (gives (took xs k)) f u = do_stmts frames w xs f u
+  ran_of (refuses n p) f u = ran f u (refuses n p)
 
   -- a statement that was read from `at` on, with its unit to spend; and once it has it
   abbrev pub step_of : ℕ → Answer (Read Stmt) → Frame → ℕ → Ran Frame Way
-  step_of at (gives (took x k)) f u = step_at (at + k) (spend f u (λ v. doStmt frames w x f v))
+  step_of at (gives (took x k)) f u = step_at (at + k) (spend f u (λ v. do_stmt frames w x f v))
   step_of at (refuses n p) f u = ran f u (refuses n p)
 
-  abbrev pub stepDo : ℕ → Answer (Read Stmt) → Frame → ℕ → Ran Frame Way
-  stepDo at (gives (took x k)) f u = step_at (at + k) (doStmt frames w x f u)
-  stepDo at (refuses n p) f u = ran f u (refuses n p)
+  abbrev pub step_do : ℕ → Answer (Read Stmt) → Frame → ℕ → Ran Frame Way
+  step_do at (gives (took x k)) f u = step_at (at + k) (do_stmt frames w x f u)
+  step_do at (refuses n p) f u = ran f u (refuses n p)
 
-  abbrev pub whileDo : ℕ → Answer (Read Head) → Frame → ℕ → Ran Frame Way
-  whileDo at (gives (took h k)) f u = step_at (at + k) (doStmt frames w (while_of h) f u)
-  whileDo at (refuses n p) f u = ran f u (refuses n p)
+  abbrev pub while_do : ℕ → Answer (Read Head) → Frame → ℕ → Ran Frame Way
+  while_do at (gives (took h k)) f u = step_at (at + k) (do_stmt frames w (while_of h) f u)
+  while_do at (refuses n p) f u = ran f u (refuses n p)
 
 -- a While's turns, of its predicate at `at` and its body up to `end`, as they were read with l depths left
 module _ (l : ℕ) (s : List ℕ) (end at : ℕ) where
-  abbrev pub bodyFrom : ℕ → Answer (Read Stmts)
-  bodyFrom m = read_list l 0 (take (end - m) (drop m s))
+  abbrev pub body_from : ℕ → Answer (Read Stmts)
+  body_from m = read_list l 0 (take (end - m) (drop m s))
 
   abbrev pub TurnsOk : Answer (Read Term) → Type 0
-  TurnsOk (gives (took t k)) = (at + k ≤ end) × Accepts (bodyFrom (at + k))
+  TurnsOk (gives (took t k)) = (at + k ≤ end) × Accepts (body_from (at + k))
   TurnsOk (refuses n p) = ⊥
 
   abbrev pub turn_of : ℕ → Answer (Read Term) → Frame → ℕ → Ran Frame Go
-  turn_of w (gives (took t k)) f u = oneTurn (eval frames w t) (λ g v. ranOf w (bodyFrom (at + k)) g v) f u
+  turn_of w (gives (took t k)) f u = one_turn (eval frames w t) (λ g v. ran_of w (body_from (at + k)) g v) f u
   turn_of w (refuses n p) f u = ran f u (refuses n p)
 
-  abbrev pub turnsBy : ℕ → Answer (Read Term) → Frame → ℕ → Ran Frame Ended
-  turnsBy w (gives (took t k)) f u = turns (eval frames w t) (λ g v. ranOf w (bodyFrom (at + k)) g v) (suc u) f u
-  turnsBy w (refuses n p) f u = ran f u (refuses n p)
+  abbrev pub turns_by : ℕ → Answer (Read Term) → Frame → ℕ → Ran Frame Ended
+  turns_by w (gives (took t k)) f u = turns (eval frames w t) (λ g v. ran_of w (body_from (at + k)) g v) (suc u) f u
+  turns_by w (refuses n p) f u = ran f u (refuses n p)
 
 -- ## The small answers alone
 

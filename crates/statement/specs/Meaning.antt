@@ -151,8 +151,8 @@ after_turn (over e) next s u = ran s u (gives e)
 
 module _ {S : Type 0} (predicate : S → ℕ → Ran S ℕ) (body : S → ℕ → Ran S Ended) where
   -- one turn: a unit, the predicate, the body
-  abbrev pub oneTurn : S → ℕ → Ran S Go
-  oneTurn s u =
+  abbrev pub one_turn : S → ℕ → Ran S Go
+  one_turn s u =
       spend s u (λ v.
       then_do (predicate s v) (λ n t w.
       cond (n == 0) (ran t w (gives (over finished))) (then_do (body t w) (λ e x y. ran x y (gives (go_of e))))))
@@ -160,7 +160,7 @@ module _ {S : Type 0} (predicate : S → ℕ → Ran S ℕ) (body : S → ℕ �
   -- at most k turns: as each takes a unit, one more than there are units is enough (`turns-enough`)
   unfoldable pub turns : ℕ → S → ℕ → Ran S Ended
   turns zero s u = spent s u
-  turns (suc k) s u = then_do (oneTurn s u) (λ g t v. after_turn g (turns k) t v)
+  turns (suc k) s u = then_do (one_turn s u) (λ g t v. after_turn g (turns k) t v)
 
 -- ## Terms and statements, over any memory
 
@@ -187,17 +187,17 @@ module _ (m : Memory) where
 
   unfoldable mutual
     -- a statement that has its unit
-    pub doStmt : ℕ → Stmt → m.State → ℕ → Ran m.State Ended
-    doStmt w (plain o) s u = ran s u (gives (end_of_plain o))
-    doStmt w (return a) s u = then_do (eval w a s u) (λ n t v. ran t v (gives (returned n)))
-    doStmt w (if_else a xs ys) s u = then_do (eval w a s u) (λ n t v. cond (n == 0) (doStmts w ys t v) (doStmts w xs t v))
-    doStmt w (while a xs) s u = turns (eval w a) (λ t v. doStmts w xs t v) (suc u) s u
-    doStmt w (expr a) s u = then_do (eval w a s u) (λ n t v. ran t v (gives finished))
+    pub do_stmt : ℕ → Stmt → m.State → ℕ → Ran m.State Ended
+    do_stmt w (plain o) s u = ran s u (gives (end_of_plain o))
+    do_stmt w (return a) s u = then_do (eval w a s u) (λ n t v. ran t v (gives (returned n)))
+    do_stmt w (if_else a xs ys) s u = then_do (eval w a s u) (λ n t v. cond (n == 0) (do_stmts w ys t v) (do_stmts w xs t v))
+    do_stmt w (while a xs) s u = turns (eval w a) (λ t v. do_stmts w xs t v) (suc u) s u
+    do_stmt w (expr a) s u = then_do (eval w a s u) (λ n t v. ran t v (gives finished))
 
     -- one unit for each statement begun
-    pub doStmts : ℕ → Stmts → m.State → ℕ → Ran m.State Ended
-    doStmts w nil s u = ran s u (gives finished)
-    doStmts w (cons x xs) s u = then_do (spend s u (λ v. doStmt w x s v)) (λ e t v. go_on e (λ y z. doStmts w xs y z) t v)
+    pub do_stmts : ℕ → Stmts → m.State → ℕ → Ran m.State Ended
+    do_stmts w nil s u = ran s u (gives finished)
+    do_stmts w (cons x xs) s u = then_do (spend s u (λ v. do_stmt w x s v)) (λ e t v. go_on e (λ y z. do_stmts w xs y z) t v)
 
 -- ## A block
 
@@ -212,4 +212,4 @@ outcome budget (ran f u e) = record { end = e; units = budget - u; frame = f }
 
 -- in the frame's width, whose cells are of that width from here on
 abbrev pub mean : Stmts → Frame → ℕ → Outcome
-mean t f budget = outcome budget (doStmts frames (bits f.width) t (begun f) budget)
+mean t f budget = outcome budget (do_stmts frames (bits f.width) t (begun f) budget)

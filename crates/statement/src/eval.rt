@@ -3,11 +3,11 @@ ghost use Rattle.std.specs.Prelude.{◌≡◌, ◌<◌, ◌≤◌, length, drop}
 ghost use Rattle.pkg_length.specs.Refusal.{block_limit};
 ghost use Rattle.grammar.specs.Grammar.{cells};
 ghost use Rattle.grammar.specs.Tree as tree;
-ghost use Rattle.grammar.specs.Reader.{read_dest, readOne, readTwo, read_term};
+ghost use Rattle.grammar.specs.Reader.{read_dest, read_one, read_two, read_term};
 ghost use Rattle.statement.specs.Frames.{bits, wrote};
 ghost use Rattle.statement.specs.Meaning.{frames, eval};
 ghost use Rattle.grammar.specs.Said.{Accepts};
-ghost use Rattle.statement.specs.Lent.{TermReady, framed, ev_in, ev_at, evaled_by, evOne, evTwo, evSecond, ev_put};
+ghost use Rattle.statement.specs.Lent.{TermReady, framed, ev_in, ev_at, evaled_by, ev_one, ev_two, ev_second, ev_put};
 
 use crate::frame::Width;
 use crate::number;
@@ -160,8 +160,8 @@ fn one(
     val: &mut [u64; 15],
     w: Width,
 ) -> Value
-    requires { (length part.now ≤ block_limit) × Accepts (readOne (read_term left) d 0 (drop at part.now)) }
-    ensures { ev_in w set.new val.new result ≡ evaled_by (evOne (bits w) op) at (readOne (read_term left) d 0 (drop at part.now)) (framed w set.old val.old) }
+    requires { (length part.now ≤ block_limit) × Accepts (read_one (read_term left) d 0 (drop at part.now)) }
+    ensures { ev_in w set.new val.new result ≡ evaled_by (ev_one (bits w) op) at (read_one (read_term left) d 0 (drop at part.now)) (framed w set.old val.old) }
 {
     let a = eval(part, at, left, set, val, w);
     match a {
@@ -181,8 +181,8 @@ fn two(
     val: &mut [u64; 15],
     w: Width,
 ) -> Value
-    requires { (length part.now ≤ block_limit) × Accepts (readTwo (read_term left) d 0 (drop at part.now)) }
-    ensures { ev_in w set.new val.new result ≡ evaled_by (evTwo (bits w) op) at (readTwo (read_term left) d 0 (drop at part.now)) (framed w set.old val.old) }
+    requires { (length part.now ≤ block_limit) × Accepts (read_two (read_term left) d 0 (drop at part.now)) }
+    ensures { ev_in w set.new val.new result ≡ evaled_by (ev_two (bits w) op) at (read_two (read_term left) d 0 (drop at part.now)) (framed w set.old val.old) }
 {
     let a = eval(part, at, left, set, val, w);
     match a {
@@ -204,8 +204,8 @@ fn second(
     val: &mut [u64; 15],
     w: Width,
 ) -> Value
-    requires { (length part.now ≤ block_limit) × Accepts (readOne (read_term left) d 0 (drop at part.now)) }
-    ensures { ev_in w set.new val.new result ≡ evaled_by (evSecond (bits w) op n) at (readOne (read_term left) d 0 (drop at part.now)) (framed w set.old val.old) }
+    requires { (length part.now ≤ block_limit) × Accepts (read_one (read_term left) d 0 (drop at part.now)) }
+    ensures { ev_in w set.new val.new result ≡ evaled_by (ev_second (bits w) op n) at (read_one (read_term left) d 0 (drop at part.now)) (framed w set.old val.old) }
 {
     let b = eval(part, at, left, set, val, w);
     match b {

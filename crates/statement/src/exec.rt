@@ -3,11 +3,11 @@ ghost use Rattle.std.specs.Prelude.{◌≡◌, ◌<◌, ◌≤◌, length, drop}
 ghost use Rattle.pkg_length.specs.Refusal.{block_limit, gives};
 ghost use Rattle.grammar.specs.Opcode.{stmt_op_at, Starts};
 ghost use Rattle.grammar.specs.Grammar.{depth_limit};
-ghost use Rattle.grammar.specs.Reader.{read_term, read_package, read_head, readElse, readIf, read_stmt, read_list};
+ghost use Rattle.grammar.specs.Reader.{read_term, read_package, read_head, read_else, read_if, read_stmt, read_list};
 ghost use Rattle.grammar.specs.Said.{up_to};
 ghost use Rattle.grammar.specs.Said.{Accepts};
 ghost use Rattle.statement.specs.Frames.{bits};
-ghost use Rattle.statement.specs.Lent.{Spans, StmtReady, framed, ran_in, step_in, turn_in, ranOf, step_of, stepDo, whileDo, TurnsOk, turn_of, turnsBy, is_finished, does_turn_on, out_of_while, moved_to, plain_to, return_to, drop_to};
+ghost use Rattle.statement.specs.Lent.{Spans, StmtReady, framed, ran_in, step_in, turn_in, ran_of, step_of, step_do, while_do, TurnsOk, turn_of, turns_by, is_finished, does_turn_on, out_of_while, moved_to, plain_to, return_to, drop_to};
 
 use crate::eval::{Value, eval, term_arg};
 use crate::frame::Width;
@@ -178,8 +178,8 @@ fn pkg(part: &[u8], at: usize) -> Span
 
 // Where an If whose package ends at `at` ends.
 fn else_end(part: &[u8], at: usize, left: usize) -> usize
-    requires { (at ≤ length part.now) × (length part.now ≤ block_limit) × Accepts (readElse (read_list left) 0 (drop at part.now)) }
-    ensures { gives result ≡ up_to at (readElse (read_list left) 0 (drop at part.now)) }
+    requires { (at ≤ length part.now) × (length part.now ≤ block_limit) × Accepts (read_else (read_list left) 0 (drop at part.now)) }
+    ensures { gives result ≡ up_to at (read_else (read_list left) 0 (drop at part.now)) }
 {
     if part.len() <= at {
         return at;
@@ -218,7 +218,7 @@ pub(crate) fn term_list(
     w: Width,
 ) -> Done
     requires { (length part.now ≤ block_limit) × Accepts (read_list left 0 part.now) }
-    ensures { ran_in w set.new val.new result ≡ ranOf (bits w) (read_list left 0 part.now) (framed w set.old val.old) units }
+    ensures { ran_in w set.new val.new result ≡ ran_of (bits w) (read_list left 0 part.now) (framed w set.old val.old) units }
 {
     let mut at = 0;
     let mut u = units;
@@ -288,8 +288,8 @@ fn def_if_else(
     units: u64,
     w: Width,
 ) -> Moved
-    requires { (at ≤ length part.now) × (length part.now ≤ block_limit) × Accepts (readIf (read_list left) 0 (drop at part.now)) }
-    ensures { step_in w set.new val.new result ≡ stepDo (bits w) at (readIf (read_list left) 0 (drop at part.now)) (framed w set.old val.old) units }
+    requires { (at ≤ length part.now) × (length part.now ≤ block_limit) × Accepts (read_if (read_list left) 0 (drop at part.now)) }
+    ensures { step_in w set.new val.new result ≡ step_do (bits w) at (read_if (read_list left) 0 (drop at part.now)) (framed w set.old val.old) units }
 {
     let p = pkg(part, at);
     let end = at + p.raw;
@@ -322,8 +322,8 @@ fn def_else(
     units: u64,
     w: Width,
 ) -> Done
-    requires { (at ≤ length part.now) × (length part.now ≤ block_limit) × Accepts (readElse (read_list left) 0 (drop at part.now)) }
-    ensures { ran_in w set.new val.new result ≡ ranOf (bits w) (readElse (read_list left) 0 (drop at part.now)) (framed w set.old val.old) units }
+    requires { (at ≤ length part.now) × (length part.now ≤ block_limit) × Accepts (read_else (read_list left) 0 (drop at part.now)) }
+    ensures { ran_in w set.new val.new result ≡ ran_of (bits w) (read_else (read_list left) 0 (drop at part.now)) (framed w set.old val.old) units }
 {
     if part.len() <= at {
         return Done {
@@ -354,7 +354,7 @@ fn def_while(
     w: Width,
 ) -> Moved
     requires { (at ≤ length part.now) × (length part.now ≤ block_limit) × Accepts (read_head (read_list left) 0 (drop at part.now)) }
-    ensures { step_in w set.new val.new result ≡ whileDo (bits w) at (read_head (read_list left) 0 (drop at part.now)) (framed w set.old val.old) units }
+    ensures { step_in w set.new val.new result ≡ while_do (bits w) at (read_head (read_list left) 0 (drop at part.now)) (framed w set.old val.old) units }
 {
     let p = pkg(part, at);
     let end = at + p.raw;
@@ -373,7 +373,7 @@ fn turns(
     w: Width,
 ) -> Done
     requires { (end ≤ length part.now) × (length part.now ≤ block_limit) × TurnsOk left part.now end at (read_term depth_limit 0 (drop at part.now)) }
-    ensures { ran_in w set.new val.new result ≡ turnsBy left part.now end at (bits w) (read_term depth_limit 0 (drop at part.now)) (framed w set.old val.old) units }
+    ensures { ran_in w set.new val.new result ≡ turns_by left part.now end at (bits w) (read_term depth_limit 0 (drop at part.now)) (framed w set.old val.old) units }
 {
     let mut u = units;
     loop {

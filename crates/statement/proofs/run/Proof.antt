@@ -6,7 +6,7 @@ use Rattle.grammar.specs.Grammar.{depth_limit}
 use Rattle.grammar.specs.Reader.{read_list}
 use Rattle.statement.specs.Frames.{bits, low, begun}
 use Rattle.statement.specs.Meaning.{Ended, Ran, ran}
-use Rattle.statement.specs.Lent.{framed, ranOf}
+use Rattle.statement.specs.Lent.{framed, ran_of}
 use Rattle.statement.proofs.Units.{left_of}
 use Rattle.statement.proofs.Runs.{ran-left}
 use Rattle.statement.proofs.Theorems.{run-ready, run-from-refusal, run-from-meaning}
@@ -18,14 +18,14 @@ term-list-requires c κs =
     run-ready c.before.before.before.before.before.before.before.before.before.before.args.block.now c.before.before.before.before.before.before.before.before.check.result c.before.before.before.before.before.before.before.before.check.ensures c.before.before.before.before.before.before.enum_told.given.1
 
 -- no run makes units
-used : (w : ℕ) (s : List ℕ) (f g : Frame) (budget u : ℕ) (a : Answer Ended) → ran g u a ≡ ranOf w (read_list depth_limit 0 s) f budget → u ≤ budget
+used : (w : ℕ) (s : List ℕ) (f g : Frame) (budget u : ℕ) (a : Answer Ended) → ran g u a ≡ ran_of w (read_list depth_limit 0 s) f budget → u ≤ budget
 unfolding left_of
 used w s f g budget u a e = omega (arith, ran-left w (read_list depth_limit 0 s) f budget, ap left_of e)
 
 -- execution begins with the low bits of the frame's numbers
 begins : (s : List ℕ) (f : Frame) (budget : ℕ) (v : List ℕ) (x : Ran Frame Ended) → v ≡ map (low (bits f.width)) f.val →
-    x ≡ ranOf (bits f.width) (read_list depth_limit 0 s) (framed f.width f.set v) budget → x ≡ ranOf (bits f.width) (read_list depth_limit 0 s) (begun f) budget
-begins s f budget v x e h = h ∙ ap (λ (n : List ℕ). ranOf (bits f.width) (read_list depth_limit 0 s) (framed f.width f.set n) budget) e
+    x ≡ ran_of (bits f.width) (read_list depth_limit 0 s) (framed f.width f.set v) budget → x ≡ ran_of (bits f.width) (read_list depth_limit 0 s) (begun f) budget
+begins s f budget v x e h = h ∙ ap (λ (n : List ℕ). ran_of (bits f.width) (read_list depth_limit 0 s) (framed f.width f.set n) budget) e
 
 returns : tie.Need-returns
 returns c =

@@ -2,39 +2,37 @@
 use mathlib.Core.Path.{◌∙◌, ap}
 use borrow.Author.Tests.{ne_eqb}
 use Rattle.grammar.specs.Opcode.{stmt_op_at, look, stmt_op_of}
+use native.Mathlib.Omega.{arith}
 use Rattle.grammar.proofs.opcode.stmt_op.Goals as goal
 
 pub returns-in-165 : goal.returns-in-165
+unfolding stmt_op_at look
 returns-in-165 c = rw c.in-165.is
 
 pub returns-in-159 : goal.returns-in-159
+unfolding stmt_op_at look
 returns-in-159 c = rw c.in-159.is
 
 pub returns-in-204 : goal.returns-in-204
+unfolding stmt_op_at look
 returns-in-204 c = rw c.in-204.is
 
 pub returns-in-163 : goal.returns-in-163
+unfolding stmt_op_at look
 returns-in-163 c = rw c.in-163.is
 
 pub returns-in-164 : goal.returns-in-164
+unfolding stmt_op_at look
 returns-in-164 c = rw c.in-164.is
 
 pub returns-in-160 : goal.returns-in-160
+unfolding stmt_op_at look
 returns-in-160 c = rw c.in-160.is
 
 pub returns-in-162 : goal.returns-in-162
+unfolding stmt_op_at look
 returns-in-162 c = rw c.in-162.is
 
 pub returns-in_default : goal.returns-in_default
 unfolding stmt_op_at look
-returns-in_default c =
-    let r = c.in-165.rest in
-    simp (
-      ne_eqb _ _ r.0.0.0.0.0.0.1,
-      ne_eqb _ _ r.0.0.0.0.0.1,
-      ne_eqb _ _ r.0.0.0.0.1,
-      ne_eqb _ _ r.0.0.0.1,
-      ne_eqb _ _ r.0.0.1,
-      ne_eqb _ _ r.0.1,
-      ne_eqb _ _ r.1,
-    ) (c.as_stmt.ensures ∙ ap stmt_op_of c.term_op.ensures)
+returns-in_default c = grind arith

@@ -7,38 +7,33 @@ use Rattle.grammar.proofs.read.pkg.Goals as goal
 pub overflow_add-place-in-Refused : goal.overflow_add-place-in-Refused
 overflow_add-place-in-Refused c =
     let a = c.args in
-    let z = c.w-1.given in
     let w = c.pkg_length-w in
-    let k = package-no a.part.now a.at (omega arith) w.result w.ensures 0 z.0.0 c.numbered-r.result z.1 c.numbered-r.ensures in
+    let k = package-no a.part.now a.at (omega arith) w.result w.ensures 0 c.in-Refused.e c.numbered-r.result c.in-Refused.is c.numbered-r.ensures in
     omega (arith, k.1)
 
 pub returns-then-r-eq1 : goal.returns-then-r-eq1
 returns-then-r-eq1 c =
     let a = c.args in
-    let z = c.w-1.given in
     let w = c.pkg_length-w in
     let n = c.numbered-r in
-    rw c.if-r-eq1.true at (package-no a.part.now a.at (omega arith) w.result w.ensures (a.base + a.at) z.0.0 n.result z.1 n.ensures).0
+    rw c.if-r-eq1.true at (package-no a.part.now a.at (omega arith) w.result w.ensures (a.base + a.at) c.in-Refused.e n.result c.in-Refused.is n.ensures).0
 
 pub returns-then-length-used : goal.returns-then-length-used
 returns-then-length-used c =
     let a = c.args in
-    let z = c.w-in-Read-1.given in
     let w = c.pkg_length-w in
-    package-early a.part.now a.at (omega arith) w.result w.ensures (a.base + a.at) z.0.0 z.0.1.0 z.1 c.if-length-used.true
+    package-early a.part.now a.at (omega arith) w.result w.ensures (a.base + a.at) c.in-Read.length c.in-Read.used c.in-Read.is c.if-length-used.true
 
 pub returns-else-r-eq1 : goal.returns-else-r-eq1
 returns-else-r-eq1 c =
     let a = c.args in
-    let z = c.w-1.given in
     let w = c.pkg_length-w in
     let n = c.numbered-r in
-    let k = package-no a.part.now a.at (omega arith) w.result w.ensures (a.base + a.at) z.0.0 n.result z.1 n.ensures in
+    let k = package-no a.part.now a.at (omega arith) w.result w.ensures (a.base + a.at) c.in-Refused.e n.result c.in-Refused.is n.ensures in
     rw (k.2 c.if-r-eq1.false) at k.0
 
 pub returns-else-length-used : goal.returns-else-length-used
 returns-else-length-used c =
     let a = c.args in
-    let z = c.w-in-Read-1.given in
     let w = c.pkg_length-w in
-    package-yes a.part.now a.at (omega arith) w.result w.ensures (a.base + a.at) z.0.0 z.0.1.0 z.1 c.if-length-used.false
+    package-yes a.part.now a.at (omega arith) w.result w.ensures (a.base + a.at) c.in-Read.length c.in-Read.used c.in-Read.is c.if-length-used.false

@@ -1,5 +1,6 @@
 -- Each arm is a row of the definition; the last has none of the others.
 use borrow.Author.Tests.{ne_eqb}
+use native.Mathlib.Omega.{arith}
 use Rattle.grammar.proofs.term.refusal.Goals as goal
 
 pub returns-in-1 : goal.returns-in-1
@@ -16,5 +17,4 @@ returns-in-31 c = rw c.in-31.is
 
 pub returns-in_default : goal.returns-in_default
 returns-in_default c =
-    let r = c.in-1.rest in
-    simp (ne_eqb _ _ r.0.0.0.1, ne_eqb _ _ r.0.0.1, ne_eqb _ _ r.0.1, ne_eqb _ _ r.1)
+    simp (ne_eqb c.args.r.0 1 (omega arith), ne_eqb c.args.r.0 2 (omega arith), ne_eqb c.args.r.0 3 (omega arith), ne_eqb c.args.r.0 31 (omega arith))

@@ -5,11 +5,11 @@ use Rattle.statement.specs.declared.frame.Frame.{Frame}
 use Rattle.grammar.specs.declared.opcode.StmtOp.{StmtOp}
 use Rattle.grammar.specs.declared.opcode.StmtOp.TheVariants.{Return, If, While}
 use Rattle.grammar.specs.Grammar.{depth_limit}
-use Rattle.grammar.specs.Reader.{read_term, read_head, readElse, readIf, stmtBy, read_stmt, read_list}
+use Rattle.grammar.specs.Reader.{read_term, read_head, read_else, read_if, stmt_by, read_stmt, read_list}
 use Rattle.statement.specs.Meaning.{Ran}
 use Rattle.grammar.specs.Said.{Accepts}
 use Rattle.statement.specs.Frames.{bits}
-use Rattle.statement.specs.Lent.{spanned, framed, Way, ranOf, step_of, stepDo, turnsBy}
+use Rattle.statement.specs.Lent.{spanned, framed, Way, ran_of, step_of, step_do, turns_by}
 use Rattle.statement.proofs.Evals as evals
 use Rattle.statement.proofs.Runs as runs
 use borrow.Fn.Kinds.{In}
@@ -199,7 +199,7 @@ module _ (t : ℕ) (k : def-if-else-lts.After-known-told2 (def-if-else-claims t)
       (bits a.w) _ _ a.units _ k.before.before.before.eval.ensures z.0.0 z.0.1.0 z.1 in
       (b.0, runs.part-short a.part.now (a.at + k.before.before.before.before.before.before.before.before.pkg.result.raw - z.0.1.0) z.0.1.0 k.before.before.before.before.before.before.before.before.before.before.requires.1.1, b.1)
 
-  if-rest : (let a = k.before.before.before.before.before.before.before.before.before.before.args in let e = a.at + k.before.before.before.before.before.before.before.before.pkg.result.raw in (e ≤ length a.part.now) × (length a.part.now ≤ block_limit) × Accepts (readElse (read_list a.left) 0 (drop e a.part.now)))
+  if-rest : (let a = k.before.before.before.before.before.before.before.before.before.before.args in let e = a.at + k.before.before.before.before.before.before.before.before.pkg.result.raw in (e ≤ length a.part.now) × (length a.part.now ≤ block_limit) × Accepts (read_else (read_list a.left) 0 (drop e a.part.now)))
   if-rest =
       let a = k.before.before.before.before.before.before.before.before.before.before.args in (
         k.before.before.before.before.before.before.before.before.pkg.ensures.fits,
@@ -287,12 +287,12 @@ statement-opcode-returns t c =
 -- an arm of the match on what the byte starts: what was read so, and what running it answers
 module _ (t : ℕ) (k : statement-opcode-lts.After-begun-op (statement-opcode-claims t) (statement-opcode-at t) statement-opcode.Post) where
   statement-acc : (o : StmtOp) → k.begun-op.result ≡ o →
-      (let a = k.before.before.before.before.args in Accepts (stmtBy (read_list (a.left - 1)) (get_or a.part.now a.at 0) 0 (drop (a.at + 1) a.part.now) o))
+      (let a = k.before.before.before.before.args in Accepts (stmt_by (read_list (a.left - 1)) (get_or a.part.now a.at 0) 0 (drop (a.at + 1) a.part.now) o))
   statement-acc o q = let a = k.before.before.before.before.args in runs.op-acc a.left a.at a.part.now k.before.before.before.before.requires.1.inside k.before.before.before.before.requires.1.reads k.begun-op.result o k.begun-op.ensures q
 
   statement-arm : (o : StmtOp) (x : Ran Frame Way) → k.begun-op.result ≡ o →
       (let a = k.before.before.before.before.args in let f = framed a.w a.set.now a.val.now in
-      x ≡ stepDo (bits a.w) a.at (stmtBy (read_list (a.left - 1)) (get_or a.part.now a.at 0) 0 (drop (a.at + 1) a.part.now) o) f (a.units - 1) →
+      x ≡ step_do (bits a.w) a.at (stmt_by (read_list (a.left - 1)) (get_or a.part.now a.at 0) 0 (drop (a.at + 1) a.part.now) o) f (a.units - 1) →
       x ≡ step_of (bits a.w) a.at (read_stmt a.left 0 (drop a.at a.part.now)) f a.units)
   statement-arm o x q h =
       let a = k.before.before.before.before.args in
@@ -302,7 +302,7 @@ module _ (t : ℕ) (k : statement-opcode-lts.After-begun-op (statement-opcode-cl
   return-acc : k.begun-op.result ≡ Return → (let a = k.before.before.before.before.args in Accepts (read_term depth_limit 0 (drop (a.at + 1) a.part.now)))
   return-acc q = let a = k.before.before.before.before.args in runs.ret-acc (bits a.w) a.at _ (framed a.w a.set.now a.val.now) 0 (statement-acc Return q)
 
-  if-acc : k.begun-op.result ≡ If → (let a = k.before.before.before.before.args in Accepts (readIf (read_list (a.left - 1)) 0 (drop (a.at + 1) a.part.now)))
+  if-acc : k.begun-op.result ≡ If → (let a = k.before.before.before.before.args in Accepts (read_if (read_list (a.left - 1)) 0 (drop (a.at + 1) a.part.now)))
   if-acc q = let a = k.before.before.before.before.args in runs.if-acc (bits a.w) a.at _ (framed a.w a.set.now a.val.now) 0 (a.left - 1) (statement-acc If q)
 
   while-acc : k.begun-op.result ≡ While → (let a = k.before.before.before.before.args in Accepts (read_head (read_list (a.left - 1)) 0 (drop (a.at + 1) a.part.now)))
@@ -371,7 +371,7 @@ statement-opcode-returns-7 t c =
 abbrev term-list-Inv-loop : term-list-lts.invariant-loop
 term-list-Inv-loop part left set₀ val₀ units w at₀ u₀ set val at u =
     (at ≤ length part) × Accepts (read_list left 0 (drop at part)) ×
-    (ranOf (bits w) (read_list left 0 part) (framed w set₀ val₀) u₀ ≡ ranOf (bits w) (read_list left 0 (drop at part)) (framed w set val) u)
+    (ran_of (bits w) (read_list left 0 part) (framed w set₀ val₀) u₀ ≡ ran_of (bits w) (read_list left 0 (drop at part)) (framed w set val) u)
 
 abbrev term-list-μ-loop : term-list-lts.decreases-loop
 term-list-μ-loop part left set₀ val₀ units w at₀ u₀ set val at u = length part - at
@@ -487,8 +487,8 @@ turn-returns-4 t c =
 -- the turns from here on are those from the start
 abbrev turns-Inv-loop : turns-lts.invariant-loop
 turns-Inv-loop part at end left set₀ val₀ units w u₀ set val u =
-    turnsBy left part end at (bits w) (read_term depth_limit 0 (drop at part)) (framed w set₀ val₀) u₀ ≡
-    turnsBy left part end at (bits w) (read_term depth_limit 0 (drop at part)) (framed w set val) u
+    turns_by left part end at (bits w) (read_term depth_limit 0 (drop at part)) (framed w set₀ val₀) u₀ ≡
+    turns_by left part end at (bits w) (read_term depth_limit 0 (drop at part)) (framed w set val) u
 
 abbrev turns-μ-loop : turns-lts.decreases-loop
 turns-μ-loop part at end left set₀ val₀ units w u₀ set val u = u
