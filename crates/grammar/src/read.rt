@@ -40,7 +40,7 @@ fn pkg(part: &[u8], base: usize, at: usize) -> Package
 }
 
 // A part's statements, to its end.
-#[cycle(def_else_def_if_else_predicate_and_body_statement_opcode_term_list)]
+#[cycle(statements)]
 pub(crate) fn term_list(part: &[u8], base: usize, left: usize) -> Reach
     requires { base + length part.now ≤ block_limit }
     ensures { reached result ≡ up_to 0 (read_list left base part.now) }
@@ -56,7 +56,7 @@ pub(crate) fn term_list(part: &[u8], base: usize, left: usize) -> Reach
     Reach(NEXT, at)
 }
 
-#[cycle(def_else_def_if_else_predicate_and_body_statement_opcode_term_list)]
+#[cycle(statements)]
 fn statement_opcode(part: &[u8], base: usize, at: usize, left: usize) -> Reach
     requires { (at < length part.now) × (base + length part.now ≤ block_limit) }
     ensures { reached result ≡ up_to at (read_stmt left (base + at) (drop at part.now)) }
@@ -77,7 +77,7 @@ fn statement_opcode(part: &[u8], base: usize, at: usize, left: usize) -> Reach
 
 // A package of a predicate and a body, an If's or a While's. The predicate is read against the part that holds the package; if it goes past the
 // package's end, it needed the byte there.
-#[cycle(def_else_def_if_else_predicate_and_body_statement_opcode_term_list)]
+#[cycle(statements)]
 fn predicate_and_body(part: &[u8], base: usize, at: usize, left: usize) -> Reach
     requires { (at ≤ length part.now) × (base + length part.now ≤ block_limit) }
     ensures { reached result ≡ up_to at (read_head (read_list left) (base + at) (drop at part.now)) }
@@ -104,7 +104,7 @@ fn predicate_and_body(part: &[u8], base: usize, at: usize, left: usize) -> Reach
 }
 
 // An If from its package on.
-#[cycle(def_else_def_if_else_predicate_and_body_statement_opcode_term_list)]
+#[cycle(statements)]
 fn def_if_else(part: &[u8], base: usize, at: usize, left: usize) -> Reach
     requires { (at ≤ length part.now) × (base + length part.now ≤ block_limit) }
     ensures { reached result ≡ up_to at (read_if (read_list left) (base + at) (drop at part.now)) }
@@ -117,7 +117,7 @@ fn def_if_else(part: &[u8], base: usize, at: usize, left: usize) -> Reach
 }
 
 // What follows an If's package: an else, or nothing.
-#[cycle(def_else_def_if_else_predicate_and_body_statement_opcode_term_list)]
+#[cycle(statements)]
 fn def_else(part: &[u8], base: usize, at: usize, left: usize) -> Reach
     requires { (at ≤ length part.now) × (base + length part.now ≤ block_limit) }
     ensures { reached result ≡ up_to at (read_else (read_list left) (base + at) (drop at part.now)) }

@@ -91,7 +91,7 @@ fn target(part: &[u8], base: usize, at: usize) -> Reach
     cell(part, base, at)
 }
 
-#[cycle(one_term_arg_two)]
+#[cycle(terms)]
 pub(crate) fn term_arg(part: &[u8], base: usize, at: usize, left: usize) -> Reach
     requires { (at ≤ length part.now) × (base + length part.now ≤ block_limit) }
     ensures { reached result ≡ up_to at (read_term left (base + at) (drop at part.now)) }
@@ -115,7 +115,7 @@ pub(crate) fn term_arg(part: &[u8], base: usize, at: usize, left: usize) -> Reac
 }
 
 // An operand, and where the result goes.
-#[cycle(one_term_arg_two)]
+#[cycle(terms)]
 fn one(part: &[u8], base: usize, at: usize, left: usize, d: Dest) -> Reach
     requires { (at ≤ length part.now) × (base + length part.now ≤ block_limit) }
     ensures { reached result ≡ up_to at (read_one (read_term left) d (base + at) (drop at part.now)) }
@@ -128,7 +128,7 @@ fn one(part: &[u8], base: usize, at: usize, left: usize, d: Dest) -> Reach
 }
 
 // An operand before that.
-#[cycle(one_term_arg_two)]
+#[cycle(terms)]
 fn two(part: &[u8], base: usize, at: usize, left: usize, d: Dest) -> Reach
     requires { (at ≤ length part.now) × (base + length part.now ≤ block_limit) }
     ensures { reached result ≡ up_to at (read_two (read_term left) d (base + at) (drop at part.now)) }

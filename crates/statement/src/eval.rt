@@ -95,7 +95,7 @@ fn store(
 }
 
 // A term; a cell is read at once.
-#[cycle(eval_one_second_term_arg_two)]
+#[cycle(terms)]
 pub(crate) fn eval(
     part: &[u8],
     at: usize,
@@ -115,7 +115,7 @@ pub(crate) fn eval(
     }
 }
 
-#[cycle(eval_one_second_term_arg_two)]
+#[cycle(terms)]
 pub(crate) fn term_arg(
     part: &[u8],
     at: usize,
@@ -149,7 +149,7 @@ pub(crate) fn term_arg(
     }
 }
 
-#[cycle(eval_one_second_term_arg_two)]
+#[cycle(terms)]
 fn one(
     part: &[u8],
     at: usize,
@@ -170,7 +170,7 @@ fn one(
     }
 }
 
-#[cycle(eval_one_second_term_arg_two)]
+#[cycle(terms)]
 fn two(
     part: &[u8],
     at: usize,
@@ -192,7 +192,7 @@ fn two(
 }
 
 // The second operand, n being the first.
-#[cycle(eval_one_second_term_arg_two)]
+#[cycle(terms)]
 fn second(
     part: &[u8],
     at: usize,

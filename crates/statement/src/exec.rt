@@ -208,7 +208,7 @@ fn begun_op(b: u8) -> StmtOp
     }
 }
 
-#[cycle(def_else_def_if_else_def_while_statement_opcode_term_list_turn_turns)]
+#[cycle(statements)]
 pub(crate) fn term_list(
     part: &[u8],
     left: usize,
@@ -241,7 +241,7 @@ pub(crate) fn term_list(
     }
 }
 
-#[cycle(def_else_def_if_else_def_while_statement_opcode_term_list_turn_turns)]
+#[cycle(statements)]
 fn statement_opcode(
     part: &[u8],
     at: usize,
@@ -278,7 +278,7 @@ fn statement_opcode(
 }
 
 // An If from its package on.
-#[cycle(def_else_def_if_else_def_while_statement_opcode_term_list_turn_turns)]
+#[cycle(statements)]
 fn def_if_else(
     part: &[u8],
     at: usize,
@@ -312,7 +312,7 @@ fn def_if_else(
 }
 
 // What follows an If's package: an else, or nothing.
-#[cycle(def_else_def_if_else_def_while_statement_opcode_term_list_turn_turns)]
+#[cycle(statements)]
 fn def_else(
     part: &[u8],
     at: usize,
@@ -343,7 +343,7 @@ fn def_else(
     term_list(&part[body..end], left, set, val, units, w)
 }
 
-#[cycle(def_else_def_if_else_def_while_statement_opcode_term_list_turn_turns)]
+#[cycle(statements)]
 fn def_while(
     part: &[u8],
     at: usize,
@@ -361,7 +361,7 @@ fn def_while(
     finish(turns(part, at + p.used, end, left, set, val, units, w), end)
 }
 
-#[cycle(def_else_def_if_else_def_while_statement_opcode_term_list_turn_turns)]
+#[cycle(statements)]
 fn turns(
     part: &[u8],
     at: usize,
@@ -391,7 +391,7 @@ fn turns(
 }
 
 // One turn of a While. It answers as its body does; a predicate of zero answers as a Break.
-#[cycle(def_else_def_if_else_def_while_statement_opcode_term_list_turn_turns)]
+#[cycle(statements)]
 fn turn(
     part: &[u8],
     at: usize,
