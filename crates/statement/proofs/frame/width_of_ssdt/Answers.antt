@@ -1,0 +1,5 @@
+-- The DSDT's alone.
+use Rattle.statement.proofs.frame.width_of_ssdt.Goals as goal
+
+pub returns : goal.returns
+returns c = c.width_of_lem.ensures
