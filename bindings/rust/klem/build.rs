@@ -1,4 +1,4 @@
-//! Finds `libklem_c.a` and has it linked: in `KLEM_LIB_DIR`, or else where `rt staticlib klem_c` writes it. Asks the compiler's version.
+//! Finds `libklem_c.a` and has it linked: in `KLEM_LIB_DIR`, or else where `rt lib` in `crates/klem_c` writes it. Asks the compiler's version.
 use std::{
     env,
     path::PathBuf,
@@ -30,13 +30,13 @@ fn main() {
 
     let dir = match env::var_os("KLEM_LIB_DIR") {
         Some(dir) => PathBuf::from(dir),
-        None => PathBuf::from(env::var_os("CARGO_MANIFEST_DIR").unwrap_or_default()).join("../../../target/staticlib"),
+        None => PathBuf::from(env::var_os("CARGO_MANIFEST_DIR").unwrap_or_default()).join("../../../crates/klem_c/out"),
     };
     let archive = dir.join("libklem_c.a");
     println!("cargo:rerun-if-changed={}", archive.display());
     if !archive.is_file() {
         stop(&format!(
-            "there is no {}: write it with `rt staticlib klem_c` in the repository's root, or name its folder in KLEM_LIB_DIR",
+            "there is no {}: write it with `rt lib` in the repository's `crates/klem_c`, or name its folder in KLEM_LIB_DIR",
             archive.display()
         ));
     }
