@@ -1,4 +1,6 @@
 // Answers are put together in a lent buffer, which has room for the longest; what would pass its end is left out.
+ghost use Rattle.std.specs.Prelude.{◌≤◌};
+
 use crate::said::Said;
 use crate::{rows, words};
 use name_object::AmlName;
@@ -24,8 +26,25 @@ pub fn text(out: &mut [u8], at: usize, s: &[u8]) -> usize {
 
 pub fn number(out: &mut [u8], at: usize, n: u64) -> usize {
     let mut digits = [0u8; 20];
-    let k = io::decimal(n, &mut digits);
-    text(out, at, &digits[..k])
+    let first = decimal(n, &mut digits);
+    text(out, at, &digits[first..])
+}
+
+// Puts n's digits at the end, from the last on; where the first stands.
+fn decimal(n: u64, digits: &mut [u8; 20]) -> usize
+    ensures { result ≤ 20 }
+{
+    let mut rest = n;
+    let mut i = 20;
+    while 0 < i {
+        i -= 1;
+        digits[i] = b'0' + (rest % 10) as u8;
+        rest /= 10;
+        if rest == 0 {
+            return i;
+        }
+    }
+    i
 }
 
 // The answer's form, filled.
