@@ -16,9 +16,9 @@ mod words;
 ghost use Rattle.std.specs.Prelude.{◌≤◌, ◌<◌, length};
 
 use arg::Args;
-use libc::{STDERR_FILENO, STDIN_FILENO, STDOUT_FILENO};
 use said::Said;
 use statement::frame::Width;
+use std::io::{Read, Stderr, Stdin, Stdout};
 use words::Hex;
 
 // Where the script stands: the buffer's bytes that were read and those of a line that has no end yet, whether that line is too long already, how many
@@ -37,6 +37,7 @@ struct At {
 
 // A whole line: blank ones and comments have no answer.
 fn one_line(
+    to: Stdout,
     given: &[u8],
     mut s: At,
     rows: &[u8],
@@ -52,7 +53,7 @@ fn one_line(
         return s;
     }
     let o = reply(k, line, s.line_number, rows, table, bytes, out, s.out);
-    answered(s, o, out)
+    answered(to, s, o, out)
 }
 
 fn next(n: u64) -> u64 {
@@ -241,7 +242,7 @@ fn usage_of(k: usize) -> Said {
 }
 
 // The answer ends at `end`. One that was not understood has a question mark in front.
-fn answered(mut s: At, end: usize, out: &mut [u8]) -> At {
+fn answered(to: Stdout, mut s: At, end: usize, out: &mut [u8]) -> At {
     let at = s.out;
     if at < out.len() {
         if out[at] == b'?' {
@@ -249,15 +250,15 @@ fn answered(mut s: At, end: usize, out: &mut [u8]) -> At {
         }
     }
     s.out = show::byte(out, end, b'\n');
-    flushed(out, s, 60000)
+    flushed(to, out, s, 60000)
 }
 
 // Writes the answers out where there are more than `most` bytes of them.
-fn flushed(out: &[u8], mut s: At, most: usize) -> At {
+fn flushed(to: Stdout, out: &[u8], mut s: At, most: usize) -> At {
     if s.out <= most {
         return s;
     }
-    if !io::write_all(STDOUT_FILENO, words::part(out, 0, s.out)) {
+    if to.write_all(words::part(out, 0, s.out)).is_err() {
         s.failed = true;
     }
     s.out = 0;
@@ -266,6 +267,7 @@ fn flushed(out: &[u8], mut s: At, most: usize) -> At {
 
 // Answers the lines that end in the chunk. `held` is then where the line starts that does not.
 fn feed(
+    to: Stdout,
     chunk: &[u8],
     start: At,
     rows: &[u8],
@@ -283,11 +285,11 @@ fn feed(
         if s.failed {
             break;
         }
-        s = one_line(&chunk[i..e], s, rows, table, bytes, out);
+        s = one_line(to, &chunk[i..e], s, rows, table, bytes, out);
         i = e + 1;
     }
     s.held = i;
-    flushed(out, s, 0)
+    flushed(to, out, s, 0)
 }
 
 // Where the line from `from` on ends.
@@ -306,13 +308,13 @@ fn line_end(chunk: &[u8], from: usize) -> usize
 }
 
 // Reads behind the held bytes. At the script's end the last line gets the end that it may lack.
-fn more(buffer: &mut [u8], mut s: At) -> At {
+fn more(from: Stdin, buffer: &mut [u8], mut s: At) -> At {
     let held = s.held;
     if buffer.len() <= held {
         s.ended = true;
         return s;
     }
-    let n = fill(&mut buffer[held..]);
+    let n = fill(from, &mut buffer[held..]);
     s.read = show::sum(held, n);
     if n == 0 {
         s.ended = true;
@@ -322,9 +324,9 @@ fn more(buffer: &mut [u8], mut s: At) -> At {
     s
 }
 
-fn fill(room: &mut [u8]) -> usize {
-    let got = libc::read(STDIN_FILENO, room);
-    io::count(got, room)
+// How many bytes came; none where the read failed.
+fn fill(mut from: Stdin, room: &mut [u8]) -> usize {
+    from.read(room).unwrap_or(0)
 }
 
 fn last_end(buffer: &mut [u8], s: At) -> usize {
@@ -351,6 +353,8 @@ fn kept(buffer: &mut [u8], mut s: At) -> At {
 
 // What there is to read, and its answers.
 fn turn(
+    from: Stdin,
+    to: Stdout,
     s: At,
     rows: &[u8],
     table: &mut [u64],
@@ -358,13 +362,30 @@ fn turn(
     bytes: &mut [u8],
     out: &mut [u8],
 ) -> At {
-    let t = more(buffer, s);
-    let u = feed(words::part(buffer, 0, t.read), t, rows, table, bytes, out);
+    let t = more(from, buffer, s);
+    let u = feed(
+        to,
+        words::part(buffer, 0, t.read),
+        t,
+        rows,
+        table,
+        bytes,
+        out,
+    );
     kept(buffer, u)
 }
 
 // The whole script. A proved loop has to end, and nothing says that the input does: so it counts its turns down from a number that no run uses up.
-fn serve(rows: &[u8], table: &mut [u64], buffer: &mut [u8], bytes: &mut [u8], out: &mut [u8]) {
+fn serve(
+    from: Stdin,
+    to: Stdout,
+    errors: Stderr,
+    rows: &[u8],
+    table: &mut [u64],
+    buffer: &mut [u8],
+    bytes: &mut [u8],
+    out: &mut [u8],
+) {
     let mut s = At {
         read: 0,
         held: 0,
@@ -377,10 +398,10 @@ fn serve(rows: &[u8], table: &mut [u64], buffer: &mut [u8], bytes: &mut [u8], ou
     };
     let mut turns = u64::MAX;
     while 0 < turns {
-        s = turn(s, rows, table, buffer, bytes, out);
+        s = turn(from, to, s, rows, table, buffer, bytes, out);
         turns = left(turns, s);
     }
-    report(s, out, rows);
+    report(errors, s, out, rows);
 }
 
 // How many turns are left: none where the script has ended or writing failed.
@@ -398,9 +419,9 @@ fn left(turns: u64, s: At) -> u64
 }
 
 // What went wrong, on standard error: a program has no status of its own.
-fn report(s: At, out: &mut [u8], rows: &[u8]) {
-    complain(not_understood(s.wrong), out, rows);
-    complain(not_written(s.failed), out, rows);
+fn report(errors: Stderr, s: At, out: &mut [u8], rows: &[u8]) {
+    complain(errors, not_understood(s.wrong), out, rows);
+    complain(errors, not_written(s.failed), out, rows);
 }
 
 fn not_understood(lines: u64) -> Said {
@@ -418,20 +439,29 @@ fn not_written(failed: bool) -> Said {
     said::plain(rows::OK)
 }
 
-fn complain(s: Said, out: &mut [u8], rows: &[u8]) {
+fn complain(errors: Stderr, s: Said, out: &mut [u8], rows: &[u8]) {
     if s.form == rows::OK {
         return;
     }
     let o = show::said(out, 0, s, rows);
     let e = show::byte(out, o, b'\n');
-    io::write_all(STDERR_FILENO, words::part(out, 0, e));
+    let _ = errors.write_all(words::part(out, 0, e));
 }
 
-fn main() {
+fn main(rt: HostRuntime) {
     let mut table = [0u64; 1153];
     namespace::new(&mut table);
     let mut buffer = [0u8; 265536];
     let mut bytes = [0u8; 100000];
     let mut out = [0u8; 265536];
-    serve(&rows::TEXT, &mut table, &mut buffer, &mut bytes, &mut out);
+    serve(
+        rt.stdin(),
+        rt.stdout(),
+        rt.stderr(),
+        &rows::TEXT,
+        &mut table,
+        &mut buffer,
+        &mut bytes,
+        &mut out,
+    );
 }

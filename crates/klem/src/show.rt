@@ -1,4 +1,6 @@
 // Answers are put together in a lent buffer, which has room for the longest; what would pass its end is left out.
+ghost use Rattle.std.specs.Prelude.{◌≡◌, ◌≤◌, drop, decimal};
+
 use crate::said::Said;
 use crate::{rows, words};
 use name_object::AmlName;
@@ -23,9 +25,27 @@ pub fn text(out: &mut [u8], at: usize, s: &[u8]) -> usize {
 }
 
 pub fn number(out: &mut [u8], at: usize, n: u64) -> usize {
-    let mut digits = [0u8; 20];
-    let k = io::decimal(n, &mut digits);
-    text(out, at, &digits[..k])
+    let mut digits = [0u8; 64];
+    let first = decimal(n, &mut digits);
+    text(out, at, &digits[first..])
+}
+
+// Puts n's digits at the end, from the last on; where the first stands. A number has 20 at most, but std's `decimal` counts up to 64.
+fn decimal(n: u64, digits: &mut [u8; 64]) -> usize
+    ensures bound { result ≤ 64 }
+    ensures digits { drop result digits.new ≡ decimal n }
+{
+    let mut rest = n;
+    let mut i = 64;
+    while 0 < i {
+        i -= 1;
+        digits[i] = b'0' + (rest % 10) as u8;
+        rest /= 10;
+        if rest == 0 {
+            return i;
+        }
+    }
+    i
 }
 
 // The answer's form, filled.
