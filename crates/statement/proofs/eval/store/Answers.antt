@@ -55,7 +55,7 @@ overflow_add-result-then-part-at-eq-NULL_NAME c =
     omega (arith, target-inside a.at s (subst (λ (d : Dest). Accepts (read_dest d 0 (drop a.at s))) c.in-ToTarget.is c-pre.2))
 
 pub returns-then-part-at-eq-NULL_NAME : goal.returns-then-part-at-eq-NULL_NAME
-returns-then-part-at-eq-NULL_NAME c =
+returns-then-part-at-eq-NULL_NAME c w =
     let c-pre = c.requires in
     let a = c.args in
     let s = a.part.now in
@@ -99,17 +99,17 @@ overflow_add-result-in-ToTarget c =
     omega (arith, cell-inside 0 a.at s acc)
 
 pub returns-in-Nowhere : goal.returns-in-Nowhere
-returns-in-Nowhere c = let a = c.args in let s = a.part.now in rw c.in-Nowhere.is (store-none a.at s a.n _)
+returns-in-Nowhere c w = let a = c.args in let s = a.part.now in rw c.in-Nowhere.is (store-none a.at s a.n _)
 
 pub returns-in-ToCell : goal.returns-in-ToCell
-returns-in-ToCell c =
+returns-in-ToCell c w =
     let c-pre = c.requires in
     let a = c.args in
     let s = a.part.now in
     rw c.in-ToCell.is (store-cell a.at s a.n _ _ _ (subst (λ (d : Dest). Accepts (read_dest d 0 (drop a.at s))) c.in-ToCell.is c-pre.2) c.wide.ensures (c.write_cell.ensures w))
 
 pub returns-else-part-at-eq-NULL_NAME : goal.returns-else-part-at-eq-NULL_NAME
-returns-else-part-at-eq-NULL_NAME c =
+returns-else-part-at-eq-NULL_NAME c w =
     let c-pre = c.requires in
     let c-if1 = c.if-part-at-eq-NULL_NAME in
     let a = c.args in

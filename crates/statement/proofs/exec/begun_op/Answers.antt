@@ -4,6 +4,7 @@ use Rattle.grammar.specs.declared.opcode.TermOp.{TermOp}
 use Rattle.grammar.specs.declared.opcode.TermOp.TheVariants.{Constant, Bytes, Cell, Step, One, Two, BadTerm}
 use Rattle.grammar.specs.declared.opcode.StmtOp.TheVariants.{Expr, BadStmt}
 use Rattle.grammar.specs.Opcode.{stmt_op_at, look, stmt_op_of, term_op_at}
+use native.Mathlib.Omega.{arith}
 use Rattle.statement.proofs.exec.begun_op.Goals as goal
 
 begins : (o : TermOp) → (stmt_op_of o ≡ BadStmt → ⊥) → Expr ≡ stmt_op_of o
@@ -48,12 +49,12 @@ unfolding stmt_op_at look
 returns-in_default c =
     let e : stmt_op_at c.args.b ≡ stmt_op_of (term_op_at c.args.b) =
     simp (
-      ne_eqb _ _ c.in-165.rest.0.0.0.0.0.0.1,
-      ne_eqb _ _ c.in-165.rest.0.0.0.0.0.1,
-      ne_eqb _ _ c.in-165.rest.0.0.0.0.1,
-      ne_eqb _ _ c.in-165.rest.0.0.0.1,
-      ne_eqb _ _ c.in-165.rest.0.0.1,
-      ne_eqb _ _ c.in-165.rest.0.1,
-      ne_eqb _ _ c.in-165.rest.1,
+      ne_eqb c.args.b 165 (omega arith),
+      ne_eqb c.args.b 159 (omega arith),
+      ne_eqb c.args.b 204 (omega arith),
+      ne_eqb c.args.b 163 (omega arith),
+      ne_eqb c.args.b 164 (omega arith),
+      ne_eqb c.args.b 160 (omega arith),
+      ne_eqb c.args.b 162 (omega arith),
     ) in
     rw e (begins (term_op_at c.args.b) (rw e at c.requires))

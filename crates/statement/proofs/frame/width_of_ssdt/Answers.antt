@@ -2,4 +2,4 @@
 use Rattle.statement.proofs.frame.width_of_ssdt.Goals as goal
 
 pub returns : goal.returns
-returns c = c.width_of_lem.ensures
+returns c = c.width_of.ensures

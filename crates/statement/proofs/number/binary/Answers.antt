@@ -3,12 +3,12 @@ use Rattle.statement.proofs.Numbers.{wrap-low, less-low}
 use Rattle.statement.proofs.number.binary.Goals as goal
 
 pub returns-in-Add : goal.returns-in-Add
-returns-in-Add c = rw (c.in-Add.is, c.wrapped.ensures, c.wrapping_add_u64.ensures) (wrap-low _ c.args.w)
+returns-in-Add c = rw (c.in-Add.is, c.wrapped.ensures, c.wrapping_add_u64.ensures.value) (wrap-low _ c.args.w)
 
 pub returns-in-Subtract : goal.returns-in-Subtract
 returns-in-Subtract c =
     let a = c.args in
-    rw (c.in-Subtract.is, c.wrapped-in-Subtract.ensures) (less-low c.wrapping_sub_u64.result a.a a.b a.w c.wrapping_sub_u64.ensures)
+    rw (c.in-Subtract.is, c.wrapped-in-Subtract.ensures) (less-low c.wrapping_sub_u64.result a.a a.b a.w c.wrapping_sub_u64.ensures.value)
 
 pub returns-in-And : goal.returns-in-And
 returns-in-And c = rw c.in-And.is

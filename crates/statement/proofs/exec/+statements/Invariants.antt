@@ -1,0 +1,48 @@
+use Rattle.std.proofs.Common.{◌≡◌, ◌+◌, ◌-◌, ◌*◌, ◌≤◌, length, drop}
+use Rattle.grammar.specs.Grammar.{depth_limit}
+use Rattle.grammar.specs.Reader.{read_term, read_list}
+use Rattle.grammar.specs.Said.{Accepts}
+use Rattle.statement.specs.Frames.{bits}
+use Rattle.statement.specs.Lent.{framed, ran_of, turns_by}
+use Rattle.statement.proofs.Evals as evals
+use Rattle.statement.proofs.Runs as runs
+use Rattle.statement.proofs.exec.+statements.Given as goal
+
+abbrev pub decreases-def_else : goal.decreases-def_else
+decreases-def_else l = 5 * l.left + 2
+
+abbrev pub decreases-def_if_else : goal.decreases-def_if_else
+decreases-def_if_else l = 5 * l.left + 3
+
+abbrev pub decreases-def_while : goal.decreases-def_while
+decreases-def_while l = 5 * l.left + 4
+
+abbrev pub decreases-statement_opcode : goal.decreases-statement_opcode
+decreases-statement_opcode l = 5 * l.left
+
+abbrev pub decreases-term_list : goal.decreases-term_list
+decreases-term_list l = 5 * l.left + 1
+
+-- what is left of the part runs as the whole does
+abbrev pub invariant-term_list-loop-at : goal.invariant-term_list-loop-at
+invariant-term_list-loop-at l =
+    (l.at ≤ length l.part) × Accepts (read_list l.left 0 (drop l.at l.part)) ×
+    (ran_of (bits l.w) (read_list l.left 0 l.part) (framed l.w l.initial.set l.initial.val) l.initial.u ≡ ran_of (bits l.w) (read_list l.left 0 (drop l.at l.part)) (framed l.w l.set l.val) l.u)
+
+abbrev pub decreases-term_list-loop-at : goal.decreases-term_list-loop-at
+decreases-term_list-loop-at l = length l.part - l.at
+
+abbrev pub decreases-turn : goal.decreases-turn
+decreases-turn l = 5 * l.left + 2
+
+abbrev pub decreases-turns : goal.decreases-turns
+decreases-turns l = 5 * l.left + 3
+
+-- the turns from here on are those from the start
+abbrev pub invariant-turns-loop-u : goal.invariant-turns-loop-u
+invariant-turns-loop-u l =
+    turns_by l.left l.part l.end l.at (bits l.w) (read_term depth_limit 0 (drop l.at l.part)) (framed l.w l.initial.set l.initial.val) l.initial.u ≡
+    turns_by l.left l.part l.end l.at (bits l.w) (read_term depth_limit 0 (drop l.at l.part)) (framed l.w l.set l.val) l.u
+
+abbrev pub decreases-turns-loop-u : goal.decreases-turns-loop-u
+decreases-turns-loop-u l = l.u
