@@ -1,0 +1,11 @@
+-- What the layer below says is told in words (`answered`).
+use Rattle.klem_c.specs.Result.{one, flag}
+use Rattle.klem_c.specs.Paths.{klem_search_rules_apply_after}
+use Rattle.klem_c.proofs.Results.{answered}
+use Rattle.klem_c.proofs.paths.klem_search_rules_apply.Goals as goal
+
+pub returns : goal.returns
+unfolding klem_search_rules_apply_after
+returns c =
+    answered (λ b. one (flag b)) _ c.args.res.now c.test.result c.tell.ensures c.test.ensures
+    (λ q. rw (c.path_in.ensures q) at c.search_rules_apply.ensures)
