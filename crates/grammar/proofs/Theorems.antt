@@ -2,13 +2,12 @@
 use mathlib.Core.Path.{◌≡◌, refl, sym, ap, subst, ◌∙◌}
 use mathlib.Core.Bool.{Bool, true, false, cond}
 use mathlib.Core.List.{List}
-use Prim.Native.Nat.{ℕ, ◌-◌, ◌≤◌, ◌<◌}
+use Prim.Native.Nat.{ℕ, ◌≤◌, ◌<◌}
 use native.Mathlib.Omega.{arith}
 use lib.Dec.{leb}
 use lib.ListN.{length}
 use borrow.Author.Tests.{le-leb, lt-leb, leb-true}
-use Rattle.pkg_length.specs.declared.AmlError.{AmlError}
-use Rattle.pkg_length.specs.Refusal.{Answer, gives, refuses, paper, refused, block_limit}
+use Rattle.pkg_length.specs.Refusal.{Answer, gives, refuses, block_limit}
 use Rattle.pkg_length.proofs.Papers.{case_of, case-is}
 use Rattle.grammar.specs.declared.CheckAnswer.{CheckAnswer}
 use Rattle.grammar.specs.declared.CheckAnswer.TheVariants.{Accepted, Refused}

@@ -1,29 +1,27 @@
 -- An image that passes is spelled by what was read of it: field by field the bits are those of the number they spell.
-use mathlib.Core.Path.{◌≡◌, refl, ap, ap₂, sym, subst, ◌∙◌}
+use mathlib.Core.Path.{◌≡◌, ap, ap₂, sym, ◌∙◌}
 use mathlib.Core.Bool.{Bool, true, false}
 use mathlib.Core.List.{List, [], ◌∷◌, ◌++◌, append_assoc, append-nil}
 use Prim.Native.Nat.{ℕ, zero, suc, ◌+◌, ◌-◌, ◌*◌, ◌/◌, ◌%◌, ◌^◌, ◌<◌, ◌≤◌}
 use native.Mathlib.Omega.{arith}
 use native.Mathlib.Nat.{suc-mul, add-mul}
-use lib.Dec.{leb}
-use lib.ListN.{length, take, drop, get_or, replicate, length-append, length-drop, take-append-drop}
-use lib.Seq.{take_at, drop_at, drop-drop, length-take-le, take-append_seam, drop-append_seam, take_all}
+use lib.ListN.{length, take, drop, length-drop, take-append-drop}
+use lib.Seq.{take_at, drop_at, drop-drop, length-take-le}
 use borrow.Author.Tests.{leb-true}
 use Rattle.pkg_length.specs.Refusal.{gives}
-use Rattle.name_object.specs.Component.{Component, seg}
 use Rattle.table.specs.Tree.{Binding, number}
 use Rattle.table.specs.Levels.{char_of_number}
-use Rattle.table.specs.Layout.{pack, count_of}
+use Rattle.table.specs.Layout.{count_of}
 use Rattle.table.proofs.Numbers.{segment_of, segment-back}
 use Rattle.table.proofs.Words.{rank-pack, type-pack, count-pack, seg-pack}
-use Rattle.image.specs.Bits.{Field, field, spelled, bits, number_at}
+use Rattle.image.specs.Bits.{field, spelled, bits, number_at}
 use Rattle.image.specs.Format.{Format, level_bits, binding_bits}
 use Rattle.image.specs.Image.{bytes_of_segment, binding_fields, object_fields}
 use Rattle.image.specs.Reader.{first, are_chars_ok, segment_number, depth_at, type_at, chars_at, level_checks, levels_checks, handle_at, binding_checks, bindings_checks, count_at, bound_checks, after, word_of_level, level_words, bindings_at, bound_at, object_checks, objects_at}
 use Rattle.image.specs.Inside.{fields_of_word, words_fields, counted_fields}
 use Rattle.image.proofs.Fields.{bits-number, number-at-low}
 use Rattle.image.proofs.Checks.{head-holds, both_first, segment-number-low}
-use Rattle.image.proofs.Rooms.{LevelHolds, level_holds, BindingHolds, binding-holds, Opened, open-last, open_more, level-room, length-bindings_at, all_left}
+use Rattle.image.proofs.Rooms.{LevelHolds, level_holds, binding-holds, Opened, open-last, open_more, length-bindings_at, all_left}
 use Rattle.image.proofs.Written.{spelled-append}
 
 -- a field that is there

@@ -1,41 +1,39 @@
 -- What passes the checks is a tree that a table may hold, and the words that are read are its memory: read as the table reads its own words,
 -- each level passes the table's test of memory, and so the words are what one valid tree is written as.
 use mathlib.Core.Path.{◌≡◌, refl, ap, ap₂, sym, subst, ◌∙◌}
-use mathlib.Core.Bool.{Bool, true, false, cond, not, ◌&&◌, ◌||◌}
+use mathlib.Core.Bool.{Bool, true, false, not, ◌||◌}
 use mathlib.Core.List.{List, [], ◌∷◌, ◌++◌, append-nil, map, map-append}
-use Prim.Native.Nat.{ℕ, zero, suc, ◌+◌, ◌-◌, ◌*◌, ◌/◌, ◌%◌, ◌^◌, ◌<◌, ◌≤◌}
+use Prim.Native.Nat.{ℕ, zero, suc, ◌+◌, ◌-◌, ◌/◌, ◌%◌, ◌^◌, ◌<◌, ◌≤◌}
 use native.Mathlib.Omega.{arith}
 use native.Mathlib.Nat.{suc-add, lt_of_lt_of_le, le_trans}
 use native.Mathlib.Numerals.{add-one}
-use lib.Dec.{leb, ltb, eqb}
+use lib.Dec.{eqb}
 use lib.ListN.{length, get_or, set, replicate, length-append, length-map, length-replicate}
 use lib.Seq.{get_or-append_seam}
 use lib.Pow.{pow_mono}
 use Rattle.table.proofs.Facts.{get_or-zeros}
 use Rattle.table.proofs.Memory.{bound-back}
 use Rattle.image.specs.Inside.{loaded}
-use borrow.Author.Tests.{lt-ltb, le-ltb, ltb-true, eq-eqb, ne_eqb, eqb-true, eqb-false}
+use borrow.Author.Tests.{lt-ltb, le-ltb, ltb-true, ne_eqb, eqb-true, eqb-false}
 use Rattle.pkg_length.specs.Refusal.{gives}
-use Rattle.pkg_length.proofs.Answers.{never}
 use Rattle.name_object.specs.Memory.{all_zero}
 use Rattle.table.specs.Limits.{Limits}
-use Rattle.table.specs.Tree.{Binding, Forest, none, level, Tree, bound, is_live}
-use Rattle.table.specs.Layout.{pack, bind_word, binding_of, flat, pad, encode}
-use Rattle.table.specs.Valid.{segment_ok, rising, name_ok, count_ok, level_ok, valid, some}
-use Rattle.table.specs.Memory.{siblings}
+use Rattle.table.specs.Tree.{Binding, Forest, none, level, bound}
+use Rattle.table.specs.Layout.{pack, bind_word, binding_of, flat, encode}
+use Rattle.table.specs.Valid.{segment_ok, rising, count_ok, level_ok, some}
 use Rattle.table.specs.Inside.{scan, lowest, below}
 use Rattle.table.proofs.Numbers.{number_ok, segment-range}
 use Rattle.table.proofs.Shape.{Small, LevelFit, fit, binding-tests, tests-binding, tests-level, Valid}
-use Rattle.table.proofs.Words.{bindings-back, binding-back}
+use Rattle.table.proofs.Words.{binding-back}
 use Rattle.table.proofs.Complete.{scan-level}
 use Rattle.table.proofs.Sound.{sibs, unwind, unwind_b, Good, sound}
-use Rattle.table.proofs.Whole.{Whole, whole-valid}
+use Rattle.table.proofs.Whole.{Whole}
 use Rattle.image.specs.Bits.{number_at}
 use Rattle.image.specs.Format.{Format, header_bits, level_bits, binding_bits, bindings_place, objects_place}
 use Rattle.image.specs.Reader.{first, are_chars_ok, segment_number, depth_at, type_at, chars_at, level_checks, levels_checks, seen, root_seen, handle_at, binding_checks, bindings_checks, count_at, bound_checks, after, word_of_level, level_words, bindings_at, bound_at, objects_at, all_words, tree_in, levels_in, bindings_in, objects_in}
 use Rattle.image.proofs.Fields.{number-at-low}
 use Rattle.image.proofs.Checks.{both_first}
-use Rattle.image.proofs.Rooms.{SegmentHolds, LevelHolds, level_holds, binding-holds, CountHolds, Opened, open-last, open_more, length-bindings_at, bound-count}
+use Rattle.image.proofs.Rooms.{LevelHolds, level_holds, binding-holds, CountHolds, Opened, open-last, open_more, length-bindings_at, bound-count}
 
 -- four characters that are a segment have a segment's number
 pub chars-segment : (v : ℕ) → are_chars_ok v ≡ true → segment_ok (segment_number v) ≡ true

@@ -1,16 +1,15 @@
 -- Fields of bits, once for every width and place: what w bits spell is the number modulo 2 ^ w, and bits are those of what they spell.
 -- All of it goes by the first bit, which weighs 2 to the number of bits behind it.
-use mathlib.Core.Path.{◌≡◌, refl, ap, ap₂, sym, subst, ◌∙◌}
+use mathlib.Core.Path.{◌≡◌, refl, ap, sym, subst, ◌∙◌}
 use mathlib.Core.Bool.{Bool, true, false, cond}
 use mathlib.Core.List.{List, [], ◌∷◌, ◌++◌, append_assoc}
 use Prim.Native.Nat.{ℕ, zero, suc, ◌+◌, ◌-◌, ◌*◌, ◌/◌, ◌%◌, ◌^◌, ◌<◌, ◌≤◌}
 use native.Mathlib.Omega.{arith}
-use native.Mathlib.Nat.{add_comm, add_assoc, add-mul, mul_assoc, mod-lt, mod-eq_of_lt, two-pow-succ, suc-add, zero-add, suc-mul, lt_of_lt_of_le, min-le_left, mul-le-mul_right}
-use native.Mathlib.Numerals.{add-one}
+use native.Mathlib.Nat.{add_comm, add-mul, mod-lt, mod-eq_of_lt, two-pow-succ, suc-add, zero-add, suc-mul, lt_of_lt_of_le, min-le_left, mul-le-mul_right}
 use lib.Dec.{eqb}
-use lib.ListN.{length, take, drop, get_or, length-append, length-take, length-drop, take-append-drop}
-use lib.Seq.{take_at, drop_at, take-append_seam, drop-append_seam, take-append-add, drop-append-add, drop-drop, take-append-le, drop-append-le, drop-cons, length-take-le, take-add}
-use lib.Pow.{pow_pos, pow_mono, pow-add, shr-shr, shr_lt, shl_lt, split, high, low, mod-pow-add}
+use lib.ListN.{length, take, drop, get_or, length-append, length-take, take-append-drop}
+use lib.Seq.{take_at, drop_at, drop-drop, drop-cons, length-take-le, take-add}
+use lib.Pow.{pow_pos, pow_mono, pow-add, shr-shr, shr_lt, shl_lt, mod-pow-add}
 use borrow.Author.Tests.{eqb-true, eqb-false}
 use Rattle.image.specs.Bits.{bits, number_of, bits_in, number_at}
 

@@ -1,29 +1,25 @@
 -- The words that the parts of an image leave in a cleared table are the table's memory, part by part with spare zeros; and what an image that
 -- passes grants to the functions that fill the table.
-use mathlib.Core.Path.{◌≡◌, refl, ap, ap₂, sym, subst, ◌∙◌}
-use mathlib.Core.Bool.{Bool}
-use mathlib.Core.List.{List, [], ◌∷◌, ◌++◌, append_assoc, append-nil, map}
+use mathlib.Core.Path.{◌≡◌, ap, sym, ◌∙◌}
+use mathlib.Core.List.{List, [], ◌∷◌, ◌++◌, append_assoc}
 use Prim.Native.Nat.{ℕ, zero, suc, ◌+◌, ◌-◌, ◌*◌, ◌/◌, ◌^◌, ◌<◌, ◌≤◌}
 use native.Mathlib.Omega.{arith}
-use lib.Dec.{eqb}
-use lib.ListN.{length, take, drop, set, replicate, length-append, length-drop, length-map, replicate-append-replicate}
+use lib.ListN.{length, take, drop, set, replicate, length-append, length-drop, replicate-append-replicate}
 use lib.Seq.{take_at, drop_at, drop-drop, set_at, length-take-le}
 use borrow.Author.Tests.{eq-eqb, ne_eqb}
-use Rattle.pkg_length.specs.Refusal.{Answer, gives, refuses, and_then}
+use Rattle.pkg_length.specs.Refusal.{gives, refuses}
 use Rattle.table.specs.Limits.{Limits, limits}
-use Rattle.table.specs.Layout.{pad, bind_word, encode}
-use Rattle.table.specs.Memory.{size, Left, left}
+use Rattle.table.specs.Layout.{pad, encode}
+use Rattle.table.specs.Memory.{size, left}
 use Rattle.table.proofs.Whole.{length-pad}
 use Rattle.image.specs.Bits.{bits_in}
 use Rattle.image.specs.Format.{Format, first_edition, header_bits, bindings_place, objects_place}
-use Rattle.image.specs.Reader.{first, image_checks, root_seen, tree_in, image_in, levels_in, bindings_in, objects_in, bound_at, objects_at, all_words}
+use Rattle.image.specs.Reader.{first, image_checks, root_seen, tree_in, image_in, levels_in, bindings_in, objects_in, bound_at}
 use Rattle.image.specs.Calls.{read_call, counts_in}
-use Rattle.image.specs.declared.Counts.{Counts}
-use Rattle.image.specs.Inside.{Walk, Accepted, loaded}
+use Rattle.image.specs.Inside.{Walk, Accepted}
 use Rattle.image.proofs.Fields.{length-bits_in}
 use Rattle.image.proofs.Rooms.{levels-room, walk-bound, bound-count}
-use Rattle.image.proofs.Contents.{loaded-is, length-all_words, length-objects_at}
-use Rattle.image.proofs.Laws.{head, levels-ok, bound-ok, objects-there, length-is, read-contents}
+use Rattle.image.proofs.Laws.{head, levels-ok, bound-ok, objects-there, length-is}
 
 drop-zeros : (k n : ℕ) → drop {A = ℕ} k (replicate n 0) ≡ replicate (n - k) 0
 drop-zeros zero n = ap (λ (j : ℕ). replicate j 0) (none n)

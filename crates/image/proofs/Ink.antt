@@ -1,15 +1,15 @@
 -- Bits packed into bytes come back, with zero bits to the byte end; and bits put at a place and then behind it are put there at once.
 -- One byte at a time: what a byte spells is the bits that were packed into it, weighed by the zeros behind them.
-use mathlib.Core.Path.{◌≡◌, refl, ap, ap₂, sym, subst, ◌∙◌}
+use mathlib.Core.Path.{◌≡◌, refl, ap, ap₂, sym, ◌∙◌}
 use mathlib.Core.Bool.{Bool, false}
 use mathlib.Core.Logic.{⊎_elim}
 use mathlib.Core.List.{List, [], ◌∷◌, ◌++◌, append_assoc, append-nil}
 use Prim.Native.Nat.{ℕ, zero, suc, ◌+◌, ◌-◌, ◌*◌, ◌/◌, ◌%◌, ◌^◌, ◌<◌, ◌≤◌}
 use native.Mathlib.Omega.{arith}
 use native.Mathlib.Nat.{add-mul, mul_assoc, mod-eq_of_lt, mul-mod_left, zero-div, suc-add, zero-add}
-use lib.ListN.{length, take, drop, get_or, set, replicate, length-append, length-take, length-drop, length-replicate, replicate-append-replicate, take-append-drop, drop_of_length-le}
+use lib.ListN.{length, take, drop, get_or, set, replicate, length-append, length-drop, replicate-append-replicate, take-append-drop, drop_of_length-le}
 use lib.Seq.{take_at, drop_at, take_all, drop-drop, drop-append-add, length-take-le, set_split}
-use lib.Pow.{pow_pos, pow-add, shl-shr, shr_lt}
+use lib.Pow.{pow-add, shl-shr}
 use Rattle.table.proofs.Facts.{lt-or-le}
 use Rattle.image.specs.Bits.{bits, number_of, bits_in, bytes_for, bytes_of, packed}
 use Rattle.image.specs.Inside.{ink}

@@ -3,19 +3,19 @@
 use mathlib.Core.Path.{◌≡◌, refl, ap, ap₂, sym, subst, ◌∙◌}
 use mathlib.Core.Bool.{Bool, true, false, cond, ◌&&◌}
 use mathlib.Core.List.{List, [], ◌∷◌, ◌++◌, append_assoc, append-nil}
-use Prim.Native.Nat.{ℕ, zero, suc, ◌+◌, ◌-◌, ◌*◌, ◌/◌, ◌^◌, ◌<◌, ◌≤◌}
+use Prim.Native.Nat.{ℕ, zero, suc, ◌+◌, ◌-◌, ◌*◌, ◌^◌, ◌<◌, ◌≤◌}
 use native.Mathlib.Omega.{arith}
 use native.Mathlib.Nat.{min-le_left}
 use lib.Pow.{shl_lt}
-use lib.Dec.{eqb, leb, ltb}
-use lib.ListN.{length, take, drop, get_or, replicate, length-append, length-take, length-drop, length-map}
-use lib.Seq.{take_all, length-take-le}
+use lib.Dec.{eqb, ltb}
+use lib.ListN.{length, take, drop, get_or, replicate, length-append, length-take, length-drop}
+use lib.Seq.{take_all}
 use borrow.Author.Tests.{eqb-true, eq-eqb, leb-true}
-use Rattle.pkg_length.specs.Refusal.{Answer, gives, refuses, and_then}
+use Rattle.pkg_length.specs.Refusal.{gives}
 use Rattle.pkg_length.proofs.Answers.{gives_same, then-gives, never, halves}
 use Rattle.table.specs.Limits.{Limits}
 use Rattle.table.specs.Tree.{Binding, Forest, none, level, Tree, bound, level_count, is_live}
-use Rattle.table.specs.Layout.{pack, flat, count_of}
+use Rattle.table.specs.Layout.{pack, flat}
 use Rattle.table.specs.Valid.{some, name_ok, segment_ok}
 use Rattle.table.specs.Inside.{counts}
 use Rattle.table.proofs.Shape.{Valid, level-tests}
@@ -26,10 +26,10 @@ use Rattle.image.specs.Format.{Format, header_bits, level_bits, binding_bits, bi
 use Rattle.image.specs.Image.{children, below_root, level_fields, bound_fields, object_fields, image_fields, image}
 use Rattle.image.specs.Reader.{first, levels_in, bindings_in, objects_in, header_checks, levels_checks, root_seen, bound_checks, object_checks, end_checks, rest_checks, body_checks, image_checks, count_at, after, level_words, bound_at, objects_at, all_words, tree_in, image_in}
 use Rattle.image.specs.Inside.{words_fields, counted_fields, counts_fields, table_fields}
-use Rattle.image.proofs.Fields.{length-bits, length-bits_in, number-low, bits-number, number-bits, number-at-low}
+use Rattle.image.proofs.Fields.{length-bits_in, number-low, bits-number, number-at-low}
 use Rattle.image.proofs.Ink.{bits-zero, packed-bits, length-packed, bytes-again}
 use Rattle.image.proofs.Checks.{head-holds, both_first}
-use Rattle.image.proofs.Rooms.{levels-room, bound-room, objects-room, bound-count}
+use Rattle.image.proofs.Rooms.{bound-room, objects-room, bound-count}
 use Rattle.image.proofs.Steps.{HeaderHolds, header-holds}
 use Rattle.image.proofs.Contents.{Contents, contents, length-all_words, length-objects_at}
 use Rattle.image.proofs.Written.{spelled-append, counts-append, levels-fields, bound-fields, length-words, length-counted, length-objects, length-spelled}

@@ -1,6 +1,6 @@
 -- What was written is read back: each field is where the reader looks for it, and the table's own test of the words grants every check.
 use mathlib.Core.Path.{◌≡◌, refl, ap, ap₂, sym, subst, ◌∙◌}
-use mathlib.Core.Bool.{Bool, true, false, cond, not, ◌&&◌, ◌||◌}
+use mathlib.Core.Bool.{Bool, true, false, not, ◌||◌}
 use mathlib.Core.List.{List, [], ◌∷◌, ◌++◌, append_assoc, append-nil, map}
 use mathlib.Core.Logic.{⊎_elim}
 use Prim.Native.Nat.{ℕ, zero, suc, ◌+◌, ◌-◌, ◌*◌, ◌/◌, ◌%◌, ◌^◌, ◌<◌, ◌≤◌}
@@ -12,25 +12,25 @@ use lib.ListN.{length, take, drop, get_or, set, length-append, length-drop, leng
 use lib.Seq.{take_at, drop_at, drop-drop, length-take-le, take-add, get_or-set_other}
 use borrow.Author.Tests.{lt-ltb, le-ltb, le-leb, ltb-true, eqb-true, ne_eqb, eq-eqb}
 use Rattle.pkg_length.specs.Refusal.{gives}
-use Rattle.pkg_length.proofs.Answers.{halves, never}
+use Rattle.pkg_length.proofs.Answers.{halves}
 use Rattle.table.specs.Tree.{Binding}
 use Rattle.table.specs.Levels.{char_of_number}
-use Rattle.table.specs.Layout.{pack, rank_of, type_of, count_of, seg_of, bind_word, binding_of}
+use Rattle.table.specs.Layout.{rank_of, type_of, count_of, seg_of, bind_word, binding_of}
 use Rattle.table.specs.Valid.{segment_ok, rising, name_ok, count_ok}
 use Rattle.table.proofs.Scan.{Passes, taken, scan-true}
 use Rattle.table.proofs.Words.{map-take, map-drop, pack-unpack}
 use Rattle.table.specs.Inside.{below, scan, noted, counts}
 use Rattle.table.proofs.Facts.{lt-or-le}
 use Rattle.table.proofs.Numbers.{number-back}
-use Rattle.table.proofs.Shape.{BindingTests, binding-tests, LevelTests, level-tests}
-use Rattle.image.specs.Bits.{Field, field, spelled, bits, number_of, number_at}
+use Rattle.table.proofs.Shape.{binding-tests, LevelTests, level-tests}
+use Rattle.image.specs.Bits.{spelled, bits, number_of, number_at}
 use Rattle.image.specs.Format.{Format, level_bits, binding_bits}
 use Rattle.image.specs.Image.{bytes_of_segment, binding_fields, object_fields}
-use Rattle.image.specs.Reader.{first, are_chars_ok, segment_number, depth_at, chars_at, levels_checks, level_checks, seen, handle_at, binding_checks, bindings_checks, bindings_at, object_checks, objects_at, count_at, count_checks, own_checks, bound_checks, after, word_of_level, level_words, bound_at}
+use Rattle.image.specs.Reader.{first, are_chars_ok, segment_number, depth_at, chars_at, levels_checks, level_checks, seen, binding_checks, bindings_checks, bindings_at, object_checks, objects_at, count_at, count_checks, own_checks, bound_checks, after, word_of_level, level_words, bound_at}
 use Rattle.image.specs.Inside.{fields_of_word, words_fields, counted_fields}
 use Rattle.image.proofs.Fields.{length-bits, number-bits}
 use Rattle.image.proofs.Checks.{first-append}
-use Rattle.image.proofs.Rooms.{BindingHolds, holds-binding, LevelHolds, holds-level, level-room, CountHolds, holds-count}
+use Rattle.image.proofs.Rooms.{holds-binding, LevelHolds, holds-level, level-room, holds-count}
 use Rattle.image.proofs.Written.{spelled-append}
 use Rattle.image.proofs.Saving.{Over}
 

@@ -1,20 +1,20 @@
 -- What checks that hold say, record by record, and the room that the records take.
-use mathlib.Core.Path.{◌≡◌, refl, ap, sym, subst, ◌∙◌}
-use mathlib.Core.Bool.{Bool, true, false, cond, not, ◌&&◌, ◌||◌}
-use mathlib.Core.List.{List, [], ◌∷◌, ◌++◌}
+use mathlib.Core.Path.{◌≡◌, refl, ap, subst, ◌∙◌}
+use mathlib.Core.Bool.{Bool, true, false, not, ◌&&◌, ◌||◌}
+use mathlib.Core.List.{List, []}
 use Prim.Native.Nat.{ℕ, zero, suc, ◌+◌, ◌-◌, ◌*◌, ◌<◌, ◌≤◌}
 use native.Mathlib.Omega.{arith}
 use native.Mathlib.Nat.{suc-mul, add-mul}
 use lib.Dec.{leb, ltb, eqb}
 use lib.ListN.{length, get_or, length-append}
 use borrow.Author.Tests.{le-leb, leb-true, lt-ltb, ltb-true}
-use Rattle.pkg_length.specs.Refusal.{Answer, gives}
+use Rattle.pkg_length.specs.Refusal.{gives}
 use Rattle.pkg_length.proofs.Answers.{halves}
-use Rattle.image.specs.Bits.{number_at, bytes_for}
-use Rattle.image.specs.Format.{Format, level_bits, binding_bits, objects_place, image_bits}
-use Rattle.image.specs.Reader.{first, fits, check, are_chars_ok, segment_number, segment_checks, named_checks, is_depth_ok, depth_at, type_at, chars_at, level_checks, levels_checks, seen, handle_at, binding_checks, bindings_checks, count_at, count_checks, own_checks, bound_checks, after, object_checks, end_checks, bindings_at, bound_at}
+use Rattle.image.specs.Bits.{number_at}
+use Rattle.image.specs.Format.{Format, level_bits, binding_bits}
+use Rattle.image.specs.Reader.{first, are_chars_ok, segment_number, segment_checks, named_checks, depth_at, type_at, level_checks, levels_checks, handle_at, binding_checks, bindings_checks, count_at, count_checks, own_checks, bound_checks, after, object_checks, bindings_at, bound_at}
 use Rattle.image.specs.Inside.{Walk}
-use Rattle.image.proofs.Checks.{head-holds, both_first, own-holds, count_low}
+use Rattle.image.proofs.Checks.{head-holds, both_first, own-holds}
 
 pub record SegmentHolds (bs : List Bool) (p lo : ℕ) : Type 0 where
   pub room : p + 32 ≤ length bs

@@ -1,14 +1,14 @@
 -- Reading what was written gives the tree back, with nothing left.
 use mathlib.Core.Path.{◌≡◌, refl, ap, ap₂, sym, subst, ◌∙◌}
-use mathlib.Core.Bool.{Bool, true, false, cond, not, ◌&&◌, ◌||◌}
+use mathlib.Core.Bool.{Bool, true, false, not, ◌||◌}
 use mathlib.Core.List.{List, [], ◌∷◌, ◌++◌, append_assoc, append-nil, map}
-use Prim.Native.Nat.{ℕ, zero, suc, ◌+◌, ◌-◌, ◌*◌, ◌/◌, ◌%◌, ◌^◌, ◌<◌, ◌≤◌}
+use Prim.Native.Nat.{ℕ, suc, ◌+◌, ◌-◌, ◌*◌, ◌^◌, ◌<◌, ◌≤◌}
 use native.Mathlib.Omega.{arith}
-use lib.Dec.{leb, ltb, eqb}
-use lib.ListN.{length, take, drop, get_or, set, replicate, length-append, length-drop, length-map, length-replicate}
-use lib.Seq.{take_all, take_at, drop_at, drop-drop, length-take-le, take-add}
+use lib.Dec.{leb, eqb}
+use lib.ListN.{length, take, drop, get_or, replicate, length-append, length-drop, length-map, length-replicate}
+use lib.Seq.{take_all, drop_at, drop-drop, length-take-le, take-add}
 use native.Mathlib.Nat.{le_trans, add-mul, zero-mod}
-use borrow.Author.Tests.{lt-ltb, le-ltb, le-leb, eq-eqb, eqb-true, ltb-true}
+use borrow.Author.Tests.{lt-ltb, le-ltb, le-leb, eq-eqb, eqb-true}
 use Rattle.name_object.specs.Memory.{all_zero}
 use Rattle.pkg_length.specs.Refusal.{gives}
 use Rattle.pkg_length.proofs.Answers.{never, halves}
@@ -19,19 +19,19 @@ use Rattle.table.specs.Memory.{siblings}
 use Rattle.table.specs.Inside.{below, scan, lowest, noted, counts}
 use Rattle.table.specs.Valid.{some, rising, count_ok}
 use Rattle.table.proofs.Facts.{get_or-zeros}
-use Rattle.table.proofs.Shape.{Valid, Small, level-tests}
+use Rattle.table.proofs.Shape.{Valid, level-tests}
 use Rattle.table.proofs.Whole.{Whole, small-handles}
 use Rattle.table.proofs.Memory.{bound-back}
 use Rattle.table.proofs.Complete.{complete}
 use Rattle.table.proofs.Decode.{siblings-flat}
 use Rattle.table.proofs.Scan.{Passes, scan-true, taken}
 use Rattle.table.proofs.Words.{map-take, map-drop, pack-unpack, rank-pack, type-pack, seg-pack}
-use Rattle.image.specs.Bits.{Field, field, spelled, bits, bits_in, number_of, number_at, bytes_for, packed}
+use Rattle.image.specs.Bits.{spelled, bits, bits_in, number_of, number_at, bytes_for}
 use Rattle.image.specs.Format.{Format, first_edition, header_bits, level_bits, binding_bits, bindings_place, objects_place, image_bits}
 use Rattle.image.specs.Image.{image_fields, image, object_fields, binding_fields}
 use Rattle.image.specs.Reader.{first, levels_in, bindings_in, objects_in, header_checks, levels_checks, root_seen, bound_checks, own_checks, count_checks, object_checks, end_checks, rest_checks, body_checks, image_checks, count_at, after, depth_at, level_words, bindings_at, bound_at, objects_at, all_words, tree_in, image_in}
 use Rattle.image.specs.Inside.{words_fields, counted_fields, counts_fields, table_fields}
-use Rattle.image.proofs.Fields.{length-bits_in, number-bits}
+use Rattle.image.proofs.Fields.{number-bits}
 use Rattle.image.proofs.Ink.{packed-bits, bits-zero}
 use Rattle.image.proofs.Checks.{first-append}
 use Rattle.image.proofs.Written.{spelled-append, length-words}

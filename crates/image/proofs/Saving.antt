@@ -1,30 +1,29 @@
 -- A well-formed table's parts, as the writer takes them: its levels, bindings and objects are the tree's, so that their fields are its image.
-use mathlib.Core.Path.{◌≡◌, refl, ap, ap₂, sym, subst, ◌∙◌}
-use mathlib.Core.Bool.{Bool, true, false, cond}
-use mathlib.Core.List.{List, [], ◌∷◌, ◌++◌, append_assoc, append-nil, map, map-append}
-use Prim.Native.Nat.{ℕ, zero, suc, ◌+◌, ◌-◌, ◌*◌, ◌^◌, ◌<◌, ◌≤◌}
+use mathlib.Core.Path.{◌≡◌, refl, ap, sym, subst, ◌∙◌}
+use mathlib.Core.Bool.{Bool, true, false}
+use mathlib.Core.List.{List, [], ◌∷◌, ◌++◌, map, map-append}
+use Prim.Native.Nat.{ℕ, zero, suc, ◌-◌, ◌^◌, ◌<◌, ◌≤◌}
 use native.Mathlib.Omega.{arith}
-use lib.Dec.{leb}
-use lib.ListN.{length, take, drop, get_or, replicate, length-append, length-map, get_or-append}
+use lib.ListN.{length, take, drop, get_or, replicate, length-map, get_or-append}
 use lib.Seq.{take_at, drop-drop, get_or-drop}
-use borrow.Author.Tests.{le-leb, lt-leb, ltb-true}
-use Rattle.pkg_length.specs.Refusal.{Answer, gives, refuses, and_then}
+use borrow.Author.Tests.{le-leb, lt-leb}
+use Rattle.pkg_length.specs.Refusal.{gives, refuses}
 use Rattle.table.specs.Limits.{Limits, limits}
 use Rattle.table.specs.Tree.{Binding, Forest, none, level, Tree, bound, is_live}
 use Rattle.table.specs.Layout.{pack, flat, pad, bind_word, binding_of}
 use Rattle.table.specs.Memory.{is_well_formed, means, decode}
 use Rattle.table.specs.Inside.{counts}
-use Rattle.table.proofs.Shape.{Valid, Small, binding-tests}
+use Rattle.table.proofs.Shape.{Valid, binding-tests}
 use Rattle.table.proofs.Numbers.{segment-range}
 use Rattle.table.specs.Valid.{rising, some}
 use Rattle.pkg_length.proofs.Answers.{never}
 use Rattle.table.proofs.Whole.{Whole, valid-whole, small-handles, length-pad}
 use Rattle.table.proofs.Memory.{formed-whole, level_part, bind_part, object_part, first-is, second_is, third-is, bound-back, encode-length}
 use Rattle.image.specs.Bits.{spelled, packed, bytes_for}
-use Rattle.image.specs.Format.{Format, first_edition, image_length}
+use Rattle.image.specs.Format.{first_edition, image_length}
 use Rattle.image.specs.Image.{image_fields, image}
 use Rattle.image.specs.Calls.{write_call}
-use Rattle.image.specs.Inside.{ink, used_of, table_fields, Filled, Ranked}
+use Rattle.image.specs.Inside.{ink, used_of, table_fields, Filled}
 use Rattle.pkg_length.specs.Wrote.{Wrote, wrote}
 use Rattle.image.proofs.Written.{used-pad, ink-all}
 use Rattle.image.proofs.Ink.{length-packed}

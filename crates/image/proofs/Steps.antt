@@ -3,17 +3,16 @@ use mathlib.Core.Path.{◌≡◌, refl, ap, ap₂, sym, subst, ◌∙◌}
 use mathlib.Core.Bool.{Bool, true}
 use lib.Dec.{eqb}
 use mathlib.Core.List.{List, [], ◌∷◌, ◌++◌, append_assoc, append-nil, map, map-append}
-use Prim.Native.Nat.{ℕ, zero, suc, ◌+◌, ◌-◌, ◌*◌, ◌^◌, ◌<◌, ◌≤◌}
+use Prim.Native.Nat.{ℕ, suc, ◌+◌, ◌-◌, ◌*◌, ◌^◌, ◌<◌, ◌≤◌}
 use native.Mathlib.Omega.{arith}
 use native.Mathlib.Numerals.{add-one}
-use lib.ListN.{length, take, drop, get_or, set, length-append, length-map, length-set, length-drop, take-append-drop}
-use lib.Seq.{take-suc-set, drop-set-lt, drop-drop, append_snoc, take_at, drop_at, length-take-le}
+use lib.ListN.{length, take, drop, set, length-append, length-map, length-drop, take-append-drop}
+use lib.Seq.{take-suc-set, drop-set-lt, drop-drop, take_at, drop_at, length-take-le}
 use borrow.Author.Tests.{leb-true, ltb-true}
 use Rattle.pkg_length.specs.Refusal.{Answer, gives, refuses, and_then}
 use Rattle.table.specs.Limits.{Limits}
-use Rattle.table.specs.Tree.{Binding}
 use Rattle.table.specs.Layout.{pack, bind_word}
-use Rattle.image.specs.Bits.{number_at, bits_in}
+use Rattle.image.specs.Bits.{number_at}
 use Rattle.image.specs.Format.{Format, first_edition, header_bits, level_bits, binding_bits, bindings_place, objects_place, image_bits}
 use Rattle.image.specs.Reader.{first, header_checks, levels_checks, bound_checks, object_checks, end_checks, rest_checks, body_checks, image_checks, root_seen, levels_in, bindings_in, objects_in, depth_at, type_at, chars_at, segment_number, handle_at, count_at, after, word_of_level, level_words, bindings_at, bound_at, objects_at, all_words}
 use Rattle.image.specs.Inside.{Walk}

@@ -1,24 +1,23 @@
 -- What is written: the fields of the table's words are those of its tree, and bits put behind bits are put there at once.
-use mathlib.Core.Path.{◌≡◌, refl, ap, ap₂, sym, subst, ◌∙◌}
-use mathlib.Core.Bool.{Bool, true, false, cond}
+use mathlib.Core.Path.{◌≡◌, refl, ap, ap₂, sym, ◌∙◌}
+use mathlib.Core.Bool.{Bool}
 use mathlib.Core.List.{List, [], ◌∷◌, ◌++◌, append_assoc, append-nil, map, map-append}
 use Prim.Native.Nat.{ℕ, zero, suc, ◌+◌, ◌-◌, ◌*◌, ◌^◌, ◌<◌, ◌≤◌}
 use native.Mathlib.Omega.{arith}
-use native.Mathlib.Nat.{suc-mul, add-mul, add_assoc}
+use native.Mathlib.Nat.{suc-mul, add-mul}
 use native.Mathlib.Numerals.{add-one}
-use lib.Dec.{eqb}
-use lib.ListN.{length, take, drop, get_or, replicate, length-append, length-take, length-drop, length-map, take-append-drop}
-use lib.Seq.{take_at, drop_at, take-suc, take-append_seam, drop-append_seam, drop-drop, length-take-le, take-add, drop-cons, drop-append-le}
-use borrow.Author.Tests.{eq-eqb, ne_eqb}
-use Rattle.table.specs.Tree.{Binding, Forest, none, level, Tree, bound, level_count}
-use Rattle.table.specs.Layout.{pack, rank_of, type_of, count_of, seg_of, bind_word, binding_of, flat, pad}
+use lib.ListN.{length, take, drop, get_or, replicate, length-append, length-drop, length-map}
+use lib.Seq.{take-suc, take-append_seam, drop-append_seam, drop-drop, length-take-le, take-add, drop-append-le}
+use borrow.Author.Tests.{ne_eqb}
+use Rattle.table.specs.Tree.{Binding, Forest, none, level, bound}
+use Rattle.table.specs.Layout.{pack, count_of, binding_of, flat}
 use Rattle.table.specs.Inside.{counts}
 use Rattle.table.proofs.Words.{rank-pack, type-pack, count-pack, seg-pack}
 use Rattle.table.proofs.Shape.{Valid}
 use Rattle.image.specs.Bits.{Field, field, spelled, bits, bits_in, bytes_for, packed}
 use Rattle.image.specs.Format.{Format, level_bits, binding_bits}
 use Rattle.image.specs.Image.{bytes_of_segment, level_fields, binding_fields, bound_fields, object_fields}
-use Rattle.image.specs.Inside.{ink, used_of, fields_of_word, words_fields, counted_fields, counts_fields, table_fields, Ready}
+use Rattle.image.specs.Inside.{ink, used_of, fields_of_word, words_fields, counted_fields}
 use Rattle.image.proofs.Fields.{length-bits}
 use Rattle.image.proofs.Ink.{length-ink, ink-ink}
 

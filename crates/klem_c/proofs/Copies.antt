@@ -2,9 +2,7 @@
 use mathlib.Core.Path.{◌≡◌, refl, sym, ◌∙◌, ap}
 use mathlib.Core.Bool.{Bool, true, false}
 use mathlib.Core.List.{List, [], ◌∷◌, ◌++◌, map, append-nil}
-use Prim.Native.Nat.{ℕ, suc, ◌+◌, ◌-◌, ◌<◌, ◌≤◌}
-use native.Mathlib.Nat.{le_of_lt}
-use native.Mathlib.Numerals.{add-one}
+use Prim.Native.Nat.{ℕ, ◌+◌, ◌-◌, ◌<◌, ◌≤◌}
 use native.Mathlib.Omega.{arith}
 use lib.ListN.{length, get_or, set, take, drop, replicate, length-set, length-drop, length-append, length-map, get_or-map, drop_of_length-le}
 use borrow.Rule.Slice.PartMut.{put_mid, Post-is}
@@ -15,7 +13,7 @@ use Rattle.klem_c.specs.Frames.{frame_size, is_set, flags_at, frame_words}
 use Rattle.statement.specs.Frames.{bits}
 use Rattle.statement.specs.declared.frame.Frame.{Frame}
 use Rattle.statement.proofs.Copies.{copied, copied-over, copied_all}
-use lib.Seq.{take_at, drop_at, drop-drop, set_split, set_at, drop-cons, take-suc, take_all, length-take-le, append_snoc, get_or-take, take-suc-set}
+use lib.Seq.{take_at, drop_at, drop-drop, set_split, take_all, length-take-le, get_or-take, take-suc-set}
 
 -- a flag as the code casts it
 pub as-flag : (b : Bool) → bool_byte b ≡ flag b

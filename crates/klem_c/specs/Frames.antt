@@ -2,7 +2,7 @@
 use Rattle.std.specs.Prelude.{ℕ, ◌+◌, Bool, ◌&&◌, ◌||◌, not, cond, List, [], ◌∷◌, ◌++◌, map, eqb, ltb, take, drop, get_or}
 use Rattle.pkg_length.specs.Refusal.{Answer, gives, refuses}
 use Rattle.grammar.specs.Grammar.{cells}
-use Rattle.statement.specs.Frames.{bits, width_of, fresh, held, wrote}
+use Rattle.statement.specs.Frames.{bits, fresh, held, wrote}
 use Rattle.statement.specs.declared.frame.Width.{Width}
 use Rattle.statement.specs.declared.frame.Width.TheVariants.{Bits32, Bits64}
 use Rattle.statement.specs.declared.frame.Frame.{Frame}

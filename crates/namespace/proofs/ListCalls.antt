@@ -14,7 +14,7 @@ use Rattle.name_object.specs.Component.{Component}
 use Rattle.table.specs.Limits.{Limits}
 use Rattle.table.specs.Tree.{keys}
 use Rattle.table.specs.Memory.{is_well_formed, decode}
-use Rattle.table.specs.Levels.{Listed, levels_from, fitting, word_level}
+use Rattle.table.specs.Levels.{levels_from, fitting, word_level}
 use Rattle.table.specs.Inside.{seek_in, counts, subtree_end, placed, subtree_of}
 use Rattle.table.specs.declared.inner.Sought.{Sought as Placed}
 use Rattle.table.specs.declared.inner.Run.{Run}
@@ -23,7 +23,7 @@ use Rattle.table.proofs.Objects.{long}
 use Rattle.table.proofs.LevelCalls.{length-ls}
 use Rattle.table.proofs.Listing.{listed_at, listed_here, listed-before, listed-missing}
 use Rattle.namespace.specs.Calls.{settled_keys}
-use Rattle.namespace.specs.Levels.{record_of_word, records_from, filled, levels_said, left_of_list, Filled}
+use Rattle.namespace.specs.Levels.{record_of_word, records_from, filled, left_of_list, Filled}
 use Rattle.namespace.specs.Listing.{word_record, run_records, answered, counted, Listable}
 use Rattle.namespace.specs.declared.LevelRecord.{LevelRecord}
 use Rattle.namespace.specs.declared.LevelsAnswer.{LevelsAnswer}

@@ -11,7 +11,7 @@ use Rattle.pkg_length.specs.Refusal.{Answer, gives, refuses, and_then}
 use Rattle.name_object.specs.declared.AmlName.{AmlName}
 use Rattle.table.specs.Limits.{Limits}
 use Rattle.table.specs.Tree.{Tree}
-use Rattle.table.specs.Memory.{is_well_formed, decode, means}
+use Rattle.table.specs.Memory.{is_well_formed, decode}
 use Rattle.table.specs.Levels.{Listed, levels_from, fitting}
 use Rattle.table.proofs.Objects.{whole, means-formed, means-unformed}
 use Rattle.table.proofs.LevelList.{EveryLevelOnce, every-level-once}

@@ -23,7 +23,6 @@ use Rattle.table.specs.Inside.{Deep, deepest, value_held, level_held, nearest_of
 use Rattle.namespace.specs.Inside.{Settled}
 use Rattle.table.specs.declared.inner.Nearest.{Nearest}
 use Rattle.table.proofs.Objects.{whole, means-formed, means-unformed}
-use Rattle.namespace.proofs.Keys.{settled-kept}
 use Rattle.table.proofs.Near.{length-keys, found_of, value-search, value-deep, level-search, level-deep}
 use Rattle.table.proofs.Whole.{small-handles}
 

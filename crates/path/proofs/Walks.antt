@@ -11,7 +11,7 @@ use borrow.Author.Tests.{le-leb, lt-leb, leb-true}
 use Rattle.pkg_length.specs.Refusal.{Answer, gives, refuses, and_then}
 use Rattle.pkg_length.proofs.Answers.{halves, never, wrong, refuses-not, gives_same, then-gives}
 use Rattle.name_object.specs.Component.{Component, root, up, seg, is_seg_ok, fine, spell_one, spell}
-use Rattle.name_object.specs.Memory.{name_of, zeros, component_of, path_ok, path_of_name}
+use Rattle.name_object.specs.Memory.{name_of, zeros, component_of, path_of_name}
 use Rattle.name_object.specs.declared.AmlName.{AmlName}
 use Rattle.name_object.proofs.Memory.{read_at}
 use Rattle.name_object.proofs.Paths.{name-whole, length-components, component-at, fine-later}

@@ -1,5 +1,5 @@
 -- A loop that fills a list from its start: what is behind it is the source's, and what is before it is as it was.
-use Rattle.std.proofs.Common.{◌≡◌, ℕ, suc, ◌+◌, ◌<◌, ◌≤◌, List, ◌∷◌, ◌++◌, map, length, get_or, take, drop, set, sym, ap, ◌∙◌, append-nil, le_of_lt, add-one, arith, drop_of_length-le, length-take-le, take_all, drop-cons, take-suc}
+use Rattle.std.proofs.Common.{◌≡◌, ℕ, suc, ◌+◌, ◌<◌, ◌≤◌, List, ◌++◌, map, length, get_or, take, drop, set, sym, ap, ◌∙◌, append-nil, le_of_lt, add-one, arith, drop_of_length-le, length-take-le, take_all, drop-cons, take-suc}
 use lib.ListN.{length-map, get_or-map}
 use lib.Seq.{set_at, get_or_at, append_snoc}
 

@@ -1,6 +1,6 @@
 -- The greatest and the least set bit, and the zero counts that find them. A bit is above the greatest where the number is below its power of two, and below
 -- the least where halving the number loses nothing; so each count ends at the bit that the definition finds. All of it is over the width.
-use Rattle.std.proofs.Common.{◌≡◌, ℕ, zero, suc, ◌+◌, ◌-◌, ◌*◌, ◌/◌, ◌%◌, ◌^◌, ◌<◌, ◌≤◌, Bool, true, false, cond, eqb, ltb, sym, refl, ap, ◌∙◌, subst, lt_of_lt_of_le, mod-lt, zero-lt-suc, div-lt_iff_lt-mul, one-mul, pow-suc, div-one, arith, pow_pos, pow_mono, ltb-false, ltb-true, eq-eqb}
+use Rattle.std.proofs.Common.{◌≡◌, ℕ, zero, suc, ◌+◌, ◌-◌, ◌/◌, ◌%◌, ◌^◌, ◌<◌, ◌≤◌, Bool, true, false, cond, eqb, ltb, sym, refl, ap, ◌∙◌, subst, lt_of_lt_of_le, mod-lt, zero-lt-suc, div-lt_iff_lt-mul, one-mul, pow-suc, div-one, arith, pow_pos, pow_mono, ltb-false, ltb-true}
 use native.Mathlib.Nat.{div-eq_of_lt, div-eq_of_lt-le, div-div-eq-div-mul, pow-succ'}
 use lib.Pow.{mod-mod-pow, field}
 use lib.Count.{count_leading_zeros, count_trailing_zeros, under, leading_top}

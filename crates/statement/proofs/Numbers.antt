@@ -1,5 +1,5 @@
 -- Numbers of w bits that are worked out on 64: the low bits of a sum, or of a difference, are those of its low 64 bits.
-use Rattle.std.proofs.Common.{◌≡◌, ℕ, ◌+◌, ◌-◌, ◌*◌, ◌/◌, ◌%◌, ◌^◌, ◌<◌, ◌≤◌, sym, ap, ◌∙◌, subst, mod-lt, add-mul, one-mul, div-add-mod', arith, lit≤, pow_pos}
+use Rattle.std.proofs.Common.{◌≡◌, ℕ, ◌+◌, ◌-◌, ◌*◌, ◌/◌, ◌%◌, ◌^◌, ◌≤◌, sym, ap, ◌∙◌, subst, mod-lt, add-mul, one-mul, div-add-mod', arith, pow_pos}
 use native.Mathlib.Nat.{mod-add-mod, add-mul-mod_self_right}
 use lib.Pow.{mod-mod-pow}
 use Rattle.statement.specs.declared.frame.Width.{Width}

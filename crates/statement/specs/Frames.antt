@@ -1,5 +1,5 @@
 -- A frame: cells that are unset or hold a number, and the width of its numbers. Writing sets a cell.
-use Rattle.std.specs.Prelude.{ℕ, ◌%◌, ◌^◌, true, false, cond, map, set, replicate, nat_lt, slice_index, slice_index_or, slice_set}
+use Rattle.std.specs.Prelude.{ℕ, ◌%◌, ◌^◌, true, false, cond, map, replicate, nat_lt, slice_index, slice_index_or, slice_set}
 use Rattle.pkg_length.specs.Refusal.{Answer, gives, refuses, refused}
 use Rattle.grammar.specs.Grammar.{cells}
 use Rattle.statement.specs.declared.frame.Width.{Width}

@@ -1,18 +1,18 @@
 -- A level is added: by where the pass leads, the definition's answer, and the words of its tree.
 use mathlib.Core.Path.{◌≡◌, refl, ap, sym, subst, subst₂, ◌∙◌}
 use mathlib.Core.Logic.{◌⊎◌, inl, inr, ⊎_elim}
-use mathlib.Core.Bool.{Bool, true, false, cond}
+use mathlib.Core.Bool.{true, cond}
 use mathlib.Core.List.{List, [], ◌∷◌, ◌++◌, append_assoc}
 use Prim.Native.Nat.{ℕ, suc, ◌+◌, ◌-◌, ◌<◌, ◌≤◌}
 use native.Mathlib.Omega.{arith}
-use lib.Dec.{leb, eqb}
+use lib.Dec.{leb}
 use lib.ListN.{length, take, drop, replicate, length-append}
 use borrow.Author.Tests.{lt-leb, le-leb}
 use Rattle.pkg_length.specs.Refusal.{Answer, gives, refuses, and_then}
 use Rattle.table.specs.Limits.{Limits}
-use Rattle.table.specs.Tree.{Binding, Forest, none, level, Tree, Level, bound, level_count, is_live}
+use Rattle.table.specs.Tree.{Binding, Forest, Tree, Level, bound, level_count, is_live}
 use Rattle.table.specs.Layout.{pack, flat, pad}
-use Rattle.table.specs.Valid.{segment_ok, some}
+use Rattle.table.specs.Valid.{segment_ok}
 use Rattle.table.specs.Edits.{level_at, alter, last_of, has_level, insert_level, with_child, with_levels, add_level_answer}
 use Rattle.table.specs.Inside.{Sought, here, before, missing, push}
 use Rattle.table.proofs.Whole.{Whole, level-count}

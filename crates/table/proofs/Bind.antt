@@ -12,7 +12,7 @@ use Rattle.table.specs.Tree.{Binding, Forest, Tree, bound, is_live}
 use Rattle.table.specs.Layout.{pack, count_of, flat, bind_word, binding_of}
 use Rattle.table.specs.Valid.{segment_ok, count_ok}
 use Rattle.table.specs.Edits.{alter, insert_binding, with_binding}
-use Rattle.table.specs.Inside.{before, counts, bindings_at}
+use Rattle.table.specs.Inside.{counts, bindings_at}
 use Rattle.table.proofs.Words.{count-pack, bindings-back}
 use Rattle.table.proofs.Shape.{Valid, LevelTests, level-tests, tests-level, fit}
 use Rattle.table.proofs.Whole.{Whole, length-words, small-handles}

@@ -18,7 +18,7 @@ use Rattle.table.specs.declared.inner.Spot.{Spot}
 use Rattle.table.proofs.Whole.{Whole, length-words, length-pad}
 use Rattle.table.proofs.Focus.{Focus}
 use Rattle.table.proofs.Insert.{put-length, put-words}
-use Rattle.table.proofs.Objects.{whole, words, set-append-add}
+use Rattle.table.proofs.Objects.{whole, set-append-add}
 use Rattle.table.proofs.Held.{levels-are, bindings-are, rebuild}
 use Rattle.table.proofs.Slots.{FreeAt, slot-free}
 use Rattle.table.proofs.Bind.{node-is, new, bound-levels, same_count, put-binding, one-bound, place-bound}

@@ -6,10 +6,10 @@ use mathlib.Core.Logic.{◌↔◌}
 use mathlib.Core.List.{List, [], ◌∷◌, ◌++◌, map}
 use Prim.Native.Nat.{ℕ, zero, suc, ◌+◌, ◌-◌, ◌<◌, ◌≤◌, ◌^◌}
 use native.Mathlib.Omega.{arith}
-use lib.Dec.{leb, ltb, eqb}
+use lib.Dec.{leb, ltb}
 use lib.ListN.{length, take, set, replicate, length-append, length-set}
 use lib.Seq.{length-take-le}
-use borrow.Author.Tests.{le-leb, lt-leb, leb-true, leb-false, ltb-true, ltb-false, lt-ltb}
+use borrow.Author.Tests.{leb-true, leb-false, ltb-true, ltb-false, lt-ltb}
 use Rattle.pkg_length.proofs.Answers.{refuses-not, gives_same}
 use Rattle.pkg_length.specs.Refusal.{Answer, gives, refuses, and_then}
 use Rattle.name_object.specs.Component.{Component}
@@ -19,9 +19,8 @@ use Rattle.table.specs.Layout.{flat, encode, bind_word}
 use Rattle.table.specs.Valid.{segment_ok, some, valid}
 use Rattle.table.specs.Memory.{is_well_formed, means, Edited, left, fresh_tree, decode}
 use Rattle.table.specs.Edits.{level_at, Change, alter, scope_of, last_of, is_bound, with_binding, with_levels, with_objects, next_handle, add_level_answer, remove_level_answer, look_up_answer, bind, add_value_answer, add_alias_answer, set_value}
-use Rattle.table.specs.Inside.{Sought, here, before, missing, counts, slot_in}
+use Rattle.table.specs.Inside.{Sought, here, before, missing, counts}
 use Rattle.table.specs.Search.{Found, or_on, outward}
-use Rattle.table.specs.declared.inner.Slot.{Slot}
 use Rattle.table.proofs.Shape.{Valid, fit}
 use Rattle.table.proofs.Whole.{Whole, valid-whole}
 use Rattle.table.proofs.Memory.{means-encode, means-whole, one-tree, encode-formed, formed-whole}

@@ -5,21 +5,19 @@ use mathlib.Core.Bool.{Bool, true, false, cond}
 use mathlib.Core.Logic.{◌⊎◌, inl, inr, ⊎_elim}
 use mathlib.Core.List.Memᴰ
 use mathlib.Core.List.{List, [], ◌∷◌, ◌++◌, append_assoc, append-nil, Memᴰ}
-use Prim.Native.Nat.{ℕ, zero, suc, ◌+◌, ◌-◌, ◌<◌, ◌≤◌}
+use Prim.Native.Nat.{ℕ, suc, ◌+◌, ◌-◌, ◌<◌, ◌≤◌}
 use native.Mathlib.Omega.{arith}
 use lib.Dec.{eqb}
 use lib.ListN.{length, take, length-append}
-use lib.Seq.{take_all, take_at, take-take, take-length}
+use lib.Seq.{take_all, take_at, take-take}
 use borrow.Author.Tests.{eqb-true, eq-eqb, ne_eqb}
 use Rattle.pkg_length.specs.Refusal.{Answer, gives, refuses, and_then}
 use Rattle.table.specs.Limits.{Limits}
-use Rattle.table.specs.Tree.{Binding, Forest, none, level, Tree, Level, is_live}
+use Rattle.table.specs.Tree.{Forest, none, level, Tree, Level, is_live}
 use Rattle.table.specs.Edits.{level_at}
 use Rattle.table.specs.Levels.{Listed, preorder, listed, levels_from, Reached, reached_from}
-use Rattle.table.proofs.Facts.{lt-or-le}
 use Rattle.table.proofs.Shape.{Valid}
 use Rattle.table.proofs.Whole.{Whole}
-use Rattle.table.proofs.Seek.{late}
 
 -- The paths of a forest.
 

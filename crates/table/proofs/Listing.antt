@@ -10,13 +10,12 @@ use Rattle.pkg_length.specs.Refusal.{gives, refuses}
 use Rattle.name_object.specs.Component.{Component, root, up, seg, is_seg_ok}
 use Rattle.table.specs.Limits.{Limits}
 use Rattle.table.specs.Tree.{number, Forest, none, level, is_live}
-use Rattle.table.specs.Layout.{pack, rank_of, type_of, seg_of, flat}
+use Rattle.table.specs.Layout.{pack, flat}
 use Rattle.table.specs.Memory.{is_well_formed, decode}
 use Rattle.table.specs.Edits.{level_at}
 use Rattle.table.specs.Levels.{Listed, preorder, levels_from, bytes_of_segment, word_level}
-use Rattle.table.specs.Inside.{Sought, here, before, missing, seek_in, counts, subtree_end, placed, subtree_of}
+use Rattle.table.specs.Inside.{Sought, here, before, missing, seek_in, counts, subtree_end, placed}
 use Rattle.table.specs.declared.inner.Sought.{Sought as Placed}
-use Rattle.table.specs.declared.inner.Run.{Run}
 use Rattle.table.proofs.Numbers.{segment_of, segment-range, number_ok, segment-back}
 use Rattle.table.proofs.Words.{rank-pack, type-pack, seg-pack}
 use Rattle.table.proofs.Shape.{Valid}

@@ -1,7 +1,7 @@
 -- The numbering of segments: every segment has one number, every number from 10 * 37^3 on below 37^4 is a segment's, the four characters come
 -- back from the number, and the order of numbers is the order of bytes. Character by character there are three kinds, and the rest is base 37.
 use mathlib.Core.Path.{◌≡◌, refl, ap, sym, ◌∙◌}
-use mathlib.Core.Bool.{Bool, true, false, cond}
+use mathlib.Core.Bool.{Bool, true, false}
 use mathlib.Core.Logic.{⊎_elim}
 use Prim.Native.Nat.{ℕ, ◌+◌, ◌*◌, ◌/◌, ◌%◌, ◌^◌, ◌<◌, ◌≤◌}
 use native.Mathlib.Omega.{arith}

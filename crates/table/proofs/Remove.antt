@@ -1,11 +1,10 @@
 -- A level goes, with everything below it: one run of records and one run of bindings.
 use mathlib.Core.Path.{◌≡◌, refl, ap, ap₂, sym, subst, ◌∙◌}
-use mathlib.Core.Bool.{Bool, true, false, cond}
+use mathlib.Core.Bool.{Bool, true}
 use mathlib.Core.List.{List, [], ◌∷◌, ◌++◌, append_assoc, map, map-append}
 use Prim.Native.Nat.{ℕ, suc, ◌+◌, ◌-◌, ◌<◌, ◌≤◌}
 use native.Mathlib.Omega.{arith}
 use native.Mathlib.Nat.{add-zero}
-use lib.Dec.{eqb}
 use lib.ListN.{length, take, drop, get_or, replicate, length-append, length-map, replicate-append-replicate}
 use lib.Seq.{take_at, drop_at, get_or_at}
 use borrow.Author.Tests.{lt-ltb, le-ltb, lt-leb, le-leb}

@@ -1,6 +1,6 @@
 -- The path holds the first i components of the whole name: the prefix byte by byte, then the segments four bytes at a time.
 use mathlib.Core.Path.{◌∙◌}
-use Prim.Native.Nat.{◌+◌, ◌-◌}
+use Prim.Native.Nat.{◌+◌}
 use Rattle.name_object.specs.Component.{component_limit}
 use Rattle.name_object.proofs.Building.{build-count, build-prefix, build-seg, build-half, build-done}
 use native.Mathlib.Omega.{arith}

@@ -1,6 +1,5 @@
 -- The characters passed are those of a segment; the one that ends the loop decides.
 use mathlib.Core.Path.{sym, ◌∙◌}
-use Prim.Native.Nat.{◌-◌}
 use Rattle.name_object.proofs.Reading.{begun-none, begun_more, seg-short, seg-bad, seg-whole}
 use native.Mathlib.Omega.{arith}
 use Rattle.name_object.proofs.name_seg.Goals as goal

@@ -1,6 +1,5 @@
 -- What is left to read, from where the loop stands, answers as the whole run does.
 use mathlib.Core.Path.{sym, ◌∙◌, ap}
-use Prim.Native.Nat.{◌-◌}
 use Rattle.name_object.specs.Inside.{cursor_said}
 use Rattle.name_object.proofs.Reading.{reached-none, reached-more, reached-stop, reached-end}
 use native.Mathlib.Omega.{arith}

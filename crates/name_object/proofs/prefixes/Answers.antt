@@ -1,6 +1,5 @@
 -- The `^`s passed and those still to come are the whole prefix.
 use mathlib.Core.Path.{sym, ◌∙◌}
-use Prim.Native.Nat.{◌-◌}
 use Rattle.name_object.proofs.Prefix.{carets-end, carets-stop, carets-turn, prefix-none, prefix-root, prefix-carets}
 use native.Mathlib.Omega.{arith}
 use Rattle.name_object.proofs.prefixes.Goals as goal

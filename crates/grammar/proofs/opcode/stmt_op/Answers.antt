@@ -1,7 +1,5 @@
 -- Each arm computes the table at its byte; the last has none of the rows.
-use mathlib.Core.Path.{◌∙◌, ap}
-use borrow.Author.Tests.{ne_eqb}
-use Rattle.grammar.specs.Opcode.{stmt_op_at, look, stmt_op_of}
+use Rattle.grammar.specs.Opcode.{stmt_op_at, look}
 use native.Mathlib.Omega.{arith}
 use Rattle.grammar.proofs.opcode.stmt_op.Goals as goal
 

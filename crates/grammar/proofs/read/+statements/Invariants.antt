@@ -3,7 +3,6 @@ use Prim.Native.Nat.{◌≤◌, ◌+◌, ◌-◌, ◌*◌}
 use lib.ListN.{length, drop}
 use Rattle.grammar.specs.Reader.{read_list}
 use Rattle.grammar.specs.Said.{up_to}
-use Rattle.grammar.proofs.Reaches as reaches
 use Rattle.grammar.proofs.read.+statements.Given as goal
 
 abbrev pub decreases-def_else : goal.decreases-def_else

@@ -1,6 +1,5 @@
 -- What is left to compare decides.
 use mathlib.Core.Path.{refl}
-use Prim.Native.Nat.{◌-◌}
 use native.Mathlib.Omega.{arith}
 use Rattle.header.proofs.Parts.{same-lengths, same_turn, same_differs, same_end}
 use Rattle.header.proofs.bytes.same.Goals as goal

@@ -1,5 +1,4 @@
 -- What stands and what is left sum to the whole, modulo 256.
-use Prim.Native.Nat.{◌-◌}
 use native.Mathlib.Omega.{arith}
 use Rattle.header.proofs.Sums.{summed-none, summed_turn, summed-all}
 use Rattle.header.proofs.bytes.sum.Goals as goal

@@ -1,7 +1,7 @@
 -- The bits taken so far spell v; each turn takes those that the next byte has.
 use borrow.Author.Rules.{rules}
 use mathlib.Core.Path.{◌≡◌, refl, ap, ◌∙◌}
-use Prim.Native.Nat.{ℕ, ◌+◌, ◌-◌, ◌*◌}
+use Prim.Native.Nat.{ℕ, ◌+◌, ◌*◌}
 use Rattle.image.specs.Bits.{number_of, number_at, bits_in}
 use Rattle.image.proofs.Fields.{next-number, next_fits, number_fits}
 use Rattle.image.proofs.bits.field.Goals as goal

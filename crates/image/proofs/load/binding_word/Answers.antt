@@ -1,6 +1,6 @@
 -- Segment and handle in their places.
 use native.Mathlib.Omega.{arith}
-use Prim.Native.Nat.{◌+◌, ◌-◌}
+use Prim.Native.Nat.{◌+◌}
 use Rattle.image.specs.Bits.{bits_in}
 use Rattle.image.proofs.Fields.{number-at-low}
 use Rattle.image.proofs.Checks.{segment-number-low}

@@ -3,7 +3,7 @@ use borrow.Author.Rules.{rules}
 use native.Mathlib.Omega.{arith}
 use mathlib.Core.Path.{◌≡◌, ap, sym, ◌∙◌}
 use mathlib.Core.List.{List, ◌∷◌, ◌++◌, map}
-use Prim.Native.Nat.{ℕ, suc, ◌+◌, ◌-◌, ◌*◌}
+use Prim.Native.Nat.{ℕ, suc, ◌+◌, ◌*◌}
 use lib.ListN.{length, set, replicate, length-map, length-replicate, length-set}
 use Rattle.table.specs.Limits.{limits}
 use Rattle.image.specs.Bits.{bits_in}

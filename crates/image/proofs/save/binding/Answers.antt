@@ -1,7 +1,7 @@
 -- Two fields in a row.
 use borrow.Author.Rules.{rules}
 use mathlib.Core.Path.{refl, ap, ◌∙◌}
-use Prim.Native.Nat.{ℕ, ◌+◌, ◌-◌, ◌/◌, ◌%◌, ◌^◌}
+use Prim.Native.Nat.{ℕ, ◌+◌, ◌/◌, ◌%◌, ◌^◌}
 use mathlib.Core.List.{[], ◌∷◌}
 use Rattle.image.specs.Bits.{field, bits}
 use Rattle.image.specs.Image.{bytes_of_segment, binding_fields}

@@ -2,10 +2,9 @@
 use borrow.Author.Rules.{rules}
 use native.Mathlib.Omega.{arith}
 use mathlib.Core.List.{List, map}
-use Prim.Native.Nat.{ℕ, ◌+◌, ◌-◌, ◌*◌, ◌≤◌}
+use Prim.Native.Nat.{ℕ, ◌+◌, ◌*◌, ◌≤◌}
 use lib.ListN.{length, take, drop}
 use Rattle.image.specs.Format.{first_edition}
-use Rattle.image.proofs.Checks.{room}
 use Rattle.image.specs.Bits.{spelled, bits}
 use Rattle.table.specs.Layout.{binding_of}
 use Rattle.image.specs.Image.{binding_fields}

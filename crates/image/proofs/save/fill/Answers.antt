@@ -5,7 +5,6 @@ use mathlib.Core.List.{List, [], ◌∷◌, ◌++◌, map, append_assoc}
 use Prim.Native.Nat.{ℕ, ◌+◌, ◌-◌, ◌*◌, ◌≤◌}
 use lib.ListN.{length, take, drop, length-map, length-append, length-drop}
 use Rattle.image.specs.Format.{first_edition}
-use Rattle.image.proofs.Checks.{room}
 use Rattle.image.specs.Bits.{field, spelled}
 use Rattle.table.specs.Layout.{binding_of}
 use Rattle.table.specs.Inside.{counts}

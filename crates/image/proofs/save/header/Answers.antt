@@ -1,7 +1,6 @@
 -- Four fields in a row.
 use borrow.Author.Rules.{rules}
 use mathlib.Core.Path.{refl}
-use Prim.Native.Nat.{◌-◌}
 use mathlib.Core.List.{[], ◌∷◌}
 use Rattle.image.specs.Bits.{field}
 use Rattle.image.specs.Inside.{counts_fields}

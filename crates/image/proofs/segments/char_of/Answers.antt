@@ -1,7 +1,7 @@
 -- Three kinds of characters.
 use borrow.Author.Rules.{rules}
 use native.Mathlib.Omega.{arith}
-use Prim.Native.Nat.{◌-◌, ◌<◌, ◌≤◌}
+use Prim.Native.Nat.{◌<◌, ◌≤◌}
 use borrow.Author.Tests.{lt-ltb, le-ltb}
 use Rattle.table.specs.Levels.{char_of_number}
 use Rattle.image.proofs.segments.char_of.Goals as goal

@@ -1,6 +1,5 @@
 -- The four characters in a row.
 use native.Mathlib.Omega.{arith}
-use Prim.Native.Nat.{◌-◌}
 use Rattle.image.specs.Image.{bytes_of_segment}
 use Rattle.image.proofs.segments.chars.Goals as goal
 

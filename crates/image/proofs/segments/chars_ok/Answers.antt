@@ -1,5 +1,4 @@
 -- Each character is of its kind.
-use Prim.Native.Nat.{◌-◌}
 use Rattle.name_object.specs.Component.{is_seg_ok}
 use Rattle.image.specs.Reader.{are_chars_ok}
 use Rattle.image.proofs.segments.chars_ok.Goals as goal

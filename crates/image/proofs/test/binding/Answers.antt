@@ -1,7 +1,7 @@
 -- The segment, then the handle.
 use borrow.Author.Rules.{rules}
 use mathlib.Core.Path.{ap, sym, ◌∙◌}
-use Prim.Native.Nat.{◌+◌, ◌-◌}
+use Prim.Native.Nat.{◌+◌}
 use Rattle.pkg_length.specs.Refusal.{gives}
 use Rattle.image.specs.Bits.{bits_in, number_at}
 use Rattle.image.specs.Format.{first_edition}

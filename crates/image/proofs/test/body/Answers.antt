@@ -1,7 +1,6 @@
 -- Levels, bindings, and the rest.
 use borrow.Author.Rules.{rules}
 use mathlib.Core.Path.{ap, sym, ◌∙◌}
-use Prim.Native.Nat.{◌-◌}
 use Rattle.image.specs.Bits.{bits_in}
 use Rattle.image.specs.Format.{first_edition, bindings_place}
 use Rattle.image.specs.Inside.{tested}

@@ -1,7 +1,6 @@
 -- The four checks of a count, in order.
 use borrow.Author.Rules.{rules}
 use mathlib.Core.Path.{ap, ◌∙◌}
-use Prim.Native.Nat.{◌-◌}
 use lib.Dec.{eqb}
 use Rattle.pkg_length.specs.Refusal.{gives}
 use Rattle.image.specs.Bits.{bits_in}

@@ -1,7 +1,7 @@
 -- Each field in order: that it is there, then what it says.
 use borrow.Author.Rules.{rules}
 use mathlib.Core.Path.{◌≡◌, sym, ◌∙◌}
-use Prim.Native.Nat.{ℕ, ◌-◌}
+use Prim.Native.Nat.{ℕ}
 use borrow.Author.Tests.{eq-eqb, ne_eqb}
 use Rattle.pkg_length.specs.Refusal.{Answer, gives}
 use Rattle.table.specs.Limits.{limits}

@@ -1,13 +1,13 @@
 -- The header, then what follows.
 use mathlib.Core.Path.{◌≡◌, ap, sym, ◌∙◌}
-use Prim.Native.Nat.{ℕ, ◌-◌}
+use Prim.Native.Nat.{ℕ}
 use Rattle.pkg_length.specs.Refusal.{Answer, gives, refuses, and_then}
 use Rattle.table.specs.Limits.{limits}
 use Rattle.image.specs.Bits.{bits_in}
 use Rattle.image.specs.Format.{first_edition}
 use Rattle.image.specs.Inside.{tested, header_said}
 use Rattle.image.proofs.Fields.{length-bits_in}
-use Rattle.image.proofs.Checks.{room, refused-is, fine-arm}
+use Rattle.image.proofs.Checks.{refused-is, fine-arm}
 use Rattle.image.specs.Reader.{first, body_checks, header_checks, levels_in, bindings_in, objects_in}
 use Rattle.image.proofs.Steps.{image-parts, header-holds}
 use Rattle.image.specs.declared.Counts.{Counts}

@@ -1,7 +1,7 @@
 -- The type, then the segment.
 use borrow.Author.Rules.{rules}
 use mathlib.Core.Path.{ap, sym, ◌∙◌}
-use Prim.Native.Nat.{ℕ, ◌+◌, ◌-◌}
+use Prim.Native.Nat.{ℕ, ◌+◌}
 use lib.ListN.{get_or}
 use Rattle.pkg_length.specs.Refusal.{gives}
 use Rattle.image.specs.Bits.{bits_in, number_at}

@@ -1,7 +1,7 @@
 -- The count, then the bindings.
 use borrow.Author.Rules.{rules}
 use mathlib.Core.Path.{◌≡◌, ap, sym, ◌∙◌}
-use Prim.Native.Nat.{ℕ, ◌+◌, ◌-◌}
+use Prim.Native.Nat.{ℕ, ◌+◌}
 use Rattle.pkg_length.specs.Refusal.{Answer, gives, refuses, and_then}
 use Rattle.image.specs.Bits.{bits_in}
 use Rattle.image.specs.Format.{first_edition}

@@ -1,7 +1,6 @@
 -- The three checks of a segment, in order.
 use borrow.Author.Rules.{rules}
 use mathlib.Core.Path.{◌≡◌, ap, sym, ◌∙◌}
-use Prim.Native.Nat.{◌-◌}
 use Rattle.pkg_length.specs.Refusal.{gives}
 use Rattle.image.specs.Bits.{bits_in, number_at}
 use Rattle.image.proofs.Fields.{number-at-low}

@@ -1,5 +1,5 @@
 -- Bits that end within the last byte are there.
-use Prim.Native.Nat.{◌+◌, ◌-◌}
+use Prim.Native.Nat.{◌+◌}
 use lib.ListN.{length}
 use Rattle.image.proofs.Fields.{length-bits_in}
 use Rattle.image.proofs.Checks.{short-is}

@@ -1,7 +1,6 @@
 -- What is behind the loop is the flags of the words, and what is before it is as it was (`flagged`).
 -- The measure is the cells that are left.
 use mathlib.Core.Path.{◌∙◌, refl}
-use Prim.Native.Nat.{◌-◌}
 use borrow.Author.Rules.{rules}
 use Rattle.klem_c.proofs.Copies.{flagged, flagged-all}
 use Rattle.klem_c.proofs.frames.flags_in.Goals as goal

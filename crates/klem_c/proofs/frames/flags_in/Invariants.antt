@@ -2,7 +2,7 @@ use mathlib.Core.Path.{◌≡◌}
 use mathlib.Core.List.{◌++◌}
 use mathlib.Core.Bool.{false}
 use Prim.Native.Nat.{◌-◌, ◌≤◌}
-use lib.ListN.{take, drop, replicate, set}
+use lib.ListN.{take, drop, replicate}
 use Rattle.grammar.specs.Grammar.{cells}
 use Rattle.klem_c.specs.Frames.{flags_at}
 use Rattle.klem_c.proofs.frames.flags_in.Given as goal

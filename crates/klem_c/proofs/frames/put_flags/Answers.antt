@@ -1,9 +1,8 @@
 -- What is behind the loop is the flags as numbers, and what is before it is as it was (`unflagged`).
 -- The measure is the cells that are left.
 use mathlib.Core.Path.{◌∙◌, ◌≡◌, refl}
-use Prim.Native.Nat.{◌-◌}
 use native.Mathlib.Omega.{arith}
-use lib.ListN.{length-set, length, set}
+use lib.ListN.{length-set, length}
 use borrow.Author.Rules.{rules}
 use Rattle.grammar.specs.Grammar.{cells}
 use Rattle.klem_c.proofs.Copies.{unflagged, unflagged-all}

@@ -1,7 +1,7 @@
 use mathlib.Core.Path.{◌≡◌}
 use mathlib.Core.List.{◌++◌, map}
 use Prim.Native.Nat.{◌-◌, ◌≤◌}
-use lib.ListN.{length, take, drop, set}
+use lib.ListN.{length, take, drop}
 use Rattle.grammar.specs.Grammar.{cells}
 use Rattle.klem_c.specs.Result.{flag}
 use Rattle.klem_c.specs.Frames.{frame_size}

@@ -1,7 +1,7 @@
 -- The first i words of the list are those of the first i levels, and the rest is as it was. The measure is what is left of them.
 use mathlib.Core.Path.{refl, ap, ◌∙◌}
 use mathlib.Core.List.{List}
-use Prim.Native.Nat.{ℕ, ◌-◌}
+use Prim.Native.Nat.{ℕ}
 use native.Mathlib.Omega.{arith}
 use lib.ListN.{set, length-set}
 use Rattle.klem_c.proofs.Packed.{pack-turn, packs-all}

@@ -1,7 +1,6 @@
 -- What is behind the loop is the source's, and what is before it is as it was (`copied`); at the end nothing is before it.
 -- The measure is what is left of the source.
 use mathlib.Core.Path.{refl, ◌∙◌}
-use Prim.Native.Nat.{◌-◌}
 use native.Mathlib.Omega.{arith}
 use lib.ListN.{length-set}
 use borrow.Author.Rules.{rules}

@@ -1,5 +1,4 @@
 -- Each number has its type, and any other the last.
-use borrow.Author.Tests.{ne_eqb}
 use native.Mathlib.Omega.{arith}
 use Rattle.klem_c.proofs.tables.level_type.Goals as goal
 

@@ -1,6 +1,6 @@
 -- The keys so far are the path's, where it is settled.
 use mathlib.Core.Path.{◌≡◌, refl}
-use Prim.Native.Nat.{◌-◌, ◌*◌}
+use Prim.Native.Nat.{◌*◌}
 use lib.ListN.{length, length-set}
 use Rattle.name_object.specs.Component.{component_limit}
 use Rattle.namespace.proofs.Keys.{settled-count, keys-first, keys-turn, keys-whole}

@@ -1,6 +1,6 @@
 -- What stands is the path cut to its count.
 use mathlib.Core.Path.{◌≡◌, ap, sym, ◌∙◌}
-use Prim.Native.Nat.{ℕ, ◌-◌, ◌*◌}
+use Prim.Native.Nat.{ℕ, ◌*◌}
 use lib.ListN.{length, take}
 use Rattle.name_object.specs.Component.{component_limit}
 use Rattle.name_object.specs.Memory.{name_of, path_of_name}

@@ -1,5 +1,5 @@
 -- After i components the walk stands where `Along` says; a step that finds no segment ends it.
-use Prim.Native.Nat.{◌-◌, ◌<◌}
+use Prim.Native.Nat.{◌<◌}
 use lib.ListN.{length, get_or}
 use Rattle.name_object.specs.Component.{up, component_limit}
 use Rattle.name_object.specs.Memory.{path_of_name}

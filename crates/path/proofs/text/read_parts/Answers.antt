@@ -1,5 +1,5 @@
 -- The reader is on its way to the whole answer; each byte is a turn.
-use Prim.Native.Nat.{suc, ◌-◌}
+use Prim.Native.Nat.{suc}
 use lib.ListN.{drop}
 use Rattle.name_object.specs.Component.{component_limit}
 use Rattle.path.specs.Text.{reading, before}

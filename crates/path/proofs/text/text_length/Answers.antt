@@ -1,6 +1,5 @@
 -- What was counted and what is left make the whole.
 use mathlib.Core.Path.{ap}
-use Prim.Native.Nat.{◌-◌}
 use lib.ListN.{length}
 use Rattle.name_object.specs.Component.{component_limit}
 use Rattle.name_object.specs.Memory.{path_of_name}

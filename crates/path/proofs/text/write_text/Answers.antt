@@ -1,6 +1,6 @@
 -- What stands is the text so far, and behind it what was lent.
 use mathlib.Core.Path.{refl, ◌∙◌, ap}
-use Prim.Native.Nat.{◌+◌, ◌-◌, ◌*◌}
+use Prim.Native.Nat.{◌+◌, ◌*◌}
 use lib.Dec.{ltb}
 use lib.ListN.{length, get_or}
 use lib.Seq.{length-sets}

@@ -1,6 +1,5 @@
 -- No component before i is a `^`.
 use mathlib.Core.Path.{refl, ◌∙◌}
-use Prim.Native.Nat.{◌-◌}
 use Rattle.name_object.specs.Memory.{path_of_name}
 use Rattle.path.specs.Inside.{name_in}
 use Rattle.path.proofs.Walks.{length-path}

@@ -1,6 +1,5 @@
 -- The components before i are of a kind, so that what is left decides.
 use mathlib.Core.Path.{sym, ◌∙◌}
-use Prim.Native.Nat.{◌-◌}
 use Rattle.name_object.specs.Component.{component_limit}
 use Rattle.path.specs.Inside.{name_in}
 use Rattle.path.proofs.Tests.{bytes-bad, bytes-turn, bytes-done, path-over, path-within}

@@ -1,6 +1,5 @@
 -- Whether the bytes before j were zero, and those from j on are.
 use mathlib.Core.Path.{refl, ◌∙◌}
-use Prim.Native.Nat.{◌-◌}
 use Rattle.name_object.proofs.Zeros.{clean-turn, clean_end}
 use native.Mathlib.Omega.{arith}
 use Rattle.path.proofs.valid.is_zero_from.Goals as goal

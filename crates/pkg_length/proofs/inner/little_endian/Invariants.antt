@@ -1,4 +1,3 @@
-use Prim.Native.Nat.{◌-◌}
 use Rattle.pkg_length.proofs.Laws.{Spelt}
 use Rattle.pkg_length.proofs.inner.little_endian.Given as goal
 

@@ -1,7 +1,6 @@
 -- Each return is one law of Evals; what a call requires is a part of what was read.
-use Rattle.std.proofs.Common.{ℕ, ◌+◌, ◌-◌, ◌≤◌, get_or, sym, ◌∙◌, arith}
+use Rattle.std.proofs.Common.{◌+◌, ◌-◌, get_or, sym, ◌∙◌, arith}
 use Rattle.grammar.specs.Reader.{read_term}
-use Rattle.statement.specs.Meaning as meaning
 use Rattle.statement.specs.Frames.{bits}
 use Rattle.grammar.proofs.Tables.{is-cell, op-cell, op_bytes}
 use Rattle.statement.proofs.Evals as evals

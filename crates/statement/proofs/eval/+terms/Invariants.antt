@@ -1,6 +1,4 @@
-use Rattle.std.proofs.Common.{◌+◌, ◌-◌, ◌*◌}
-use Rattle.statement.specs.Meaning as meaning
-use Rattle.statement.proofs.Evals as evals
+use Rattle.std.proofs.Common.{◌+◌, ◌*◌}
 use Rattle.statement.proofs.eval.+terms.Given as goal
 
 abbrev pub decreases-eval : goal.decreases-eval

@@ -4,8 +4,6 @@ use Rattle.grammar.specs.Reader.{read_term, read_list}
 use Rattle.grammar.specs.Said.{Accepts}
 use Rattle.statement.specs.Frames.{bits}
 use Rattle.statement.specs.Lent.{framed, ran_of, turns_by}
-use Rattle.statement.proofs.Evals as evals
-use Rattle.statement.proofs.Runs as runs
 use Rattle.statement.proofs.exec.+statements.Given as goal
 
 abbrev pub decreases-def_else : goal.decreases-def_else

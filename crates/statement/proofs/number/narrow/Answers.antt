@@ -1,5 +1,5 @@
 -- What is behind the loop is the low bits, and what is before it is as it was (`changed`). The measure is the cells that are left.
-use Rattle.std.proofs.Common.{◌≡◌, ◌-◌, length, refl, ◌∙◌, rules}
+use Rattle.std.proofs.Common.{◌≡◌, length, refl, ◌∙◌, rules}
 use Rattle.grammar.specs.Grammar.{cells}
 use Rattle.statement.specs.Frames.{bits, low}
 use Rattle.statement.proofs.Copies.{changed, changed-all}

@@ -1,6 +1,6 @@
 -- What is left decides as the whole does: the last word passed stands for the least segment that may come.
 use mathlib.Core.Path.{refl, sym, ◌∙◌}
-use Prim.Native.Nat.{◌+◌, ◌-◌}
+use Prim.Native.Nat.{◌+◌}
 use Rattle.table.specs.Inside.{below}
 use Rattle.table.proofs.Turns.{rest-low, rest-dead, rest-on, rest_end, binds-short, binds-rest}
 use borrow.Author.Tests.{lt-ltb, le-ltb}

@@ -1,6 +1,5 @@
 -- What is passed is zero.
 use mathlib.Core.Path.{refl}
-use Prim.Native.Nat.{◌-◌}
 use lib.ListN.{length, length-set}
 use Rattle.table.proofs.Turns.{clear-turn, clear-done}
 use native.Mathlib.Omega.{arith}

@@ -1,6 +1,5 @@
 -- What is left of the records tells what all of them do.
 use mathlib.Core.Path.{refl, ◌∙◌}
-use Prim.Native.Nat.{◌-◌}
 use Rattle.table.proofs.Child.{child-out, child-past, child-stop, child-smaller, child-here, child-behind}
 use native.Mathlib.Omega.{arith}
 use Rattle.table.proofs.inner.find_child.Goals as goal

@@ -1,6 +1,5 @@
 -- What is passed, and then the carry before what is left, is the end; at a spare word the carry has its place.
 use mathlib.Core.Path.{sym, ◌∙◌}
-use Prim.Native.Nat.{◌-◌}
 use lib.ListN.{length-set}
 use Rattle.table.proofs.Moves.{push-turn, push-stop, push-done}
 use native.Mathlib.Omega.{arith}

@@ -1,6 +1,5 @@
 -- A scope whose level is not there holds none, and one whose level is there holds what its children do: so each turn leaves the innermost as it was.
 use mathlib.Core.Path.{◌≡◌, ap, sym, ◌∙◌}
-use Prim.Native.Nat.{◌-◌}
 use Rattle.table.specs.Inside.{depth_of, deepest, level_held}
 use Rattle.table.proofs.Child.{reached-at, held-level, held_none, deepest-found, deepest-less, trail-levels}
 use native.Mathlib.Omega.{arith}

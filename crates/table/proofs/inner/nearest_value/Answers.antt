@@ -1,6 +1,5 @@
 -- A scope whose level is not there holds none, and one whose level is there holds what its bindings do: so each turn leaves the innermost as it was.
 use mathlib.Core.Path.{◌≡◌, ap, sym, ◌∙◌}
-use Prim.Native.Nat.{◌-◌}
 use Rattle.table.specs.Inside.{nearest_of, deepest, value_held}
 use Rattle.table.proofs.Child.{reached-at, reached-slots, held-bound, held-free, deepest-found, deepest-less, trail-values}
 use native.Mathlib.Omega.{arith}

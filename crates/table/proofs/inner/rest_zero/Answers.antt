@@ -1,6 +1,5 @@
 -- Whether a word before i had a bit set, and those from i on are zero.
 use mathlib.Core.Path.{refl, sym, ◌∙◌}
-use Prim.Native.Nat.{◌-◌}
 use Rattle.table.proofs.Turns.{spare-turn, spare-end}
 use native.Mathlib.Omega.{arith}
 use Rattle.table.proofs.inner.rest_zero.Goals as goal

@@ -1,10 +1,9 @@
 -- What is left of the pass decides as the whole pass does.
 use mathlib.Core.Path.{refl, sym, ◌∙◌}
-use Prim.Native.Nat.{◌-◌}
 use lib.ListN.{drop, get_or, length-set}
 use Rattle.name_object.specs.Component.{component_limit}
 use Rattle.table.specs.Inside.{lowest, below}
-use Rattle.table.proofs.Turns.{Passed, passed, turn-zero, turn-unfit, turn-pass, turn_end}
+use Rattle.table.proofs.Turns.{passed, turn-zero, turn-unfit, turn-pass, turn_end}
 use native.Mathlib.Omega.{arith}
 use Rattle.table.proofs.inner.scan_levels.Goals as goal
 

@@ -3,10 +3,6 @@ use Prim.Native.Nat.{◌+◌, ◌-◌, ◌≤◌}
 use lib.ListN.{length, drop}
 use Rattle.name_object.specs.Component.{component_limit}
 use Rattle.table.specs.Inside.{scan, lowest, below}
-use Rattle.table.proofs.inner.scan_levels.Reads as reads
-use Rattle.table.proofs.inner.scan_levels.Lts as lts
-use Rattle.table.proofs.inner.rest_zero.Reads as rest-zero-reads
-use Rattle.table.proofs.inner.record_fits.Reads as record-fits-reads
 use Rattle.table.proofs.inner.scan_levels.Given as goal
 
 abbrev pub invariant-loop-k : goal.invariant-loop-k

@@ -1,6 +1,5 @@
 -- The first keys lead to where the next is looked for; its child is there, or the path ends where it is not.
 use mathlib.Core.Path.{refl, ◌∙◌}
-use Prim.Native.Nat.{◌-◌}
 use Rattle.table.specs.Inside.{counts}
 use Rattle.table.proofs.Passes.{counts-low}
 use Rattle.table.proofs.Child.{cursor-start, cursor-low, found_inside, found_from, cursor-turn, placed-gone, cursor-end}

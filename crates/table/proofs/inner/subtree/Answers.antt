@@ -1,6 +1,6 @@
 -- The run so far and what is left of it are the whole run; its bindings are counted on the way.
 use mathlib.Core.Path.{refl, ap, sym, ◌∙◌}
-use Prim.Native.Nat.{ℕ, ◌+◌, ◌-◌}
+use Prim.Native.Nat.{ℕ, ◌+◌}
 use lib.ListN.{take, get_or}
 use Rattle.table.specs.Layout.{rank_of, count_of}
 use Rattle.table.specs.Inside.{counts, subtree_end}
