@@ -48,7 +48,7 @@ pub(crate) fn fill(
     body: &[u8],
 ) -> usize
     requires { header_length + length body.now ≤ length out.old }
-    ensures { record { out = out.exit.now; said = gives result } ≡ wrote out.entry.now (gives (bytes_of (record { signature = s; revision = revision; rest = rest.now; body = body.now }))) }
+    ensures { record { out = out.new; said = gives result } ≡ wrote out.old (gives (bytes_of (record { signature = s; revision = revision; rest = rest.now; body = body.now }))) }
 {
     let n = 36 + body.len();
     put_letters(out, s);

@@ -114,7 +114,7 @@ pub fn write(
     body: &[u8],
     out: &mut [u8],
 ) -> WriteAnswer
-    ensures { record { out = out.exit.now; said = write_said result } ≡ wrote out.entry.now (written (length out.entry.now) letters.now revision rest.now body.now) }
+    ensures { record { out = out.new; said = write_said result } ≡ wrote out.old (written (length out.old) letters.now revision rest.now body.now) }
 {
     match signature_of(letters) {
         SignatureAnswer::Refused(e) => WriteAnswer::Refused(e),
@@ -130,7 +130,7 @@ fn write_signed(
     body: &[u8],
     out: &mut [u8],
 ) -> WriteAnswer
-    ensures { record { out = out.exit.now; said = write_said result } ≡ wrote out.entry.now (written_of (length out.entry.now) (record { signature = s; revision = revision; rest = rest.now; body = body.now })) }
+    ensures { record { out = out.new; said = write_said result } ≡ wrote out.old (written_of (length out.old) (record { signature = s; revision = revision; rest = rest.now; body = body.now })) }
 {
     if 4294967259 < body.len() {
         return WriteAnswer::Refused(AmlError::BadTableLength);

@@ -41,7 +41,7 @@ pub enum ReadAnswer {
 
 // Writes the table's image at the start of `out`.
 pub fn write(table: &[u64], out: &mut [u8]) -> WriteAnswer
-    ensures { record { out = out.exit.now; said = write_said result } ≡ wrote out.entry.now (write_call first_edition limits (length out.entry.now) table.now) }
+    ensures { record { out = out.new; said = write_said result } ≡ wrote out.old (write_call first_edition limits (length out.old) table.now) }
 {
     if table::well_formed(table) {
         let n = save::used(&table[..LEVELS]);

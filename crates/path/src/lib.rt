@@ -111,7 +111,7 @@ pub fn from_str(text: &[u8]) -> PathAnswer
 
 // The text of a path, at the start of `out`; the answer gives its length, at most TEXT_BYTES.
 pub fn as_string(name: AmlName, out: &mut [u8]) -> TextAnswer
-    ensures { record { out = out.exit.now; said = text_said result } ≡ wrote out.entry.now (and_then (path_in_answer component_limit name) (text_within (length out.entry.now))) }
+    ensures { record { out = out.new; said = text_said result } ≡ wrote out.old (and_then (path_in_answer component_limit name) (text_within (length out.old))) }
 {
     let count = name.count;
     if valid::holds_path(count, &name.bytes) {
