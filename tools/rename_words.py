@@ -1,7 +1,7 @@
 #!/usr/bin/env python3
 """Brings this repository's own definitions and lemmas to the spelling of today's Rattle: words in snake case.
 
-usage: python3 tools/rename_words.py   (once, at the top, after /opt/rattle/port/port.py)
+usage: python3 tools/rename_words.py   (once, at the top, after the port.py of the kit)
 
 It renames what specs/ and proofs/ declare: a word in camel case becomes snake case, a part at a time where a dash joins
 two, and a constructor or a field that a dash joined takes an underscore. Where a definition would fall together with a
