@@ -1,4 +1,4 @@
-//! Finds `libklem_c.a` and has it linked: in `KLEM_LIB_DIR`, or else where `rt lib` in `crates/klem_c` writes it. Asks the compiler's version.
+//! Finds `libklem_c.a` and has it linked: in `KLEM_LIB_DIR`, or else where `rt lib --cpu=x86-64` in `crates/klem_c` writes it. Asks the compiler's version.
 use std::{
     env,
     path::PathBuf,
@@ -36,7 +36,7 @@ fn main() {
     println!("cargo:rerun-if-changed={}", archive.display());
     if !archive.is_file() {
         stop(&format!(
-            "there is no {}: write it with `rt lib` in the repository's `crates/klem_c`, or name its folder in KLEM_LIB_DIR",
+            "there is no {}: write it with `rt lib --cpu=x86-64` in the repository's `crates/klem_c`, or name its folder in KLEM_LIB_DIR",
             archive.display()
         ));
     }
