@@ -3,12 +3,13 @@
 -- An answer is shown as its numbers, so that all twelve are of one kind.
 use Rattle.std.specs.Prelude.{ℕ, List, [], ◌∷◌, replicate}
 use Rattle.pkg_length.specs.Refusal.{Answer, gives, refuses, and_then}
-use Rattle.pkg_length.specs.Pkg.{Pkg, pkg_length_answer}
+use Rattle.pkg_length.specs.declared.Pkg.{Pkg}
+use Rattle.pkg_length.specs.Pkg.{pkg_length_answer}
 use Rattle.name_object.specs.Component.{Component, component_limit, spell}
-use Rattle.name_object.specs.Memory.{Named, told, path_in_answer}
+use Rattle.name_object.specs.Memory.{Named, named, handed, path_in_answer}
 use Rattle.name_object.specs.Name.{name_string_answer}
 use Rattle.name_object.specs.declared.AmlName.{AmlName}
-use Rattle.path.specs.Normal.{alone, normal}
+use Rattle.path.specs.Normal.{normal}
 use Rattle.path.specs.Text.{from_text}
 use Rattle.table.specs.Limits.{limits}
 use Rattle.table.specs.Memory.{Edited, left, size}
@@ -60,7 +61,7 @@ name bytes = name_shown (name_string_answer component_limit bytes)
 
 -- the path in memory that text reading gives
 abbrev pub typed : List ℕ → AmlName
-typed text = (told component_limit (alone (from_text component_limit text))).memory
+typed text = handed component_limit (λ name. name) (named component_limit (from_text component_limit text))
 
 abbrev pub normalised : List ℕ → Answer (List ℕ)
 normalised text = path_shown (and_then (path_in_answer component_limit (typed text)) (normal component_limit))

@@ -3,9 +3,9 @@ use mathlib.Core.Path.{◌≡◌, refl, subst₂}
 use mathlib.Core.Bool.{Bool, true, false, cond}
 use mathlib.Core.List.{List}
 use Prim.Native.Nat.{ℕ, ◌≤◌, ◌<◌}
-use native.Mathlib.Omega.{arith}
 use lib.ListN.{length, take}
 use Rattle.pkg_length.specs.Refusal.{Answer, gives, refuses, and_then}
+use Rattle.pkg_length.proofs.Answers.{refuses-not}
 use Rattle.grammar.specs.Reader.{Read, took, reads, then_read}
 
 -- a test by cases
@@ -13,22 +13,19 @@ pub pick-by : {A : Type 0} (P : A → Type 0) (t : Bool) {x y : A} → (t ≡ tr
 pick-by P true f g = f refl
 pick-by P false f g = g refl
 
-pub never : {A : Type 0} {n p : ℕ} {a : A} {X : Type 0} → refuses n p ≡ gives a → X
-never e = absurd (let z : ◌≡◌ {A = ℕ} 0 1 = cc in omega arith)
-
 -- the parts are handed on as variables, so that terms stay small
 pub then_by : {A B X : Type 0} (r : Answer (Read A)) (f : A → ℕ → Answer B) {b : B} → then_read r f ≡ gives b →
     ((a : A) (k : ℕ) → r ≡ reads a k → f a k ≡ gives b → X) → X
 then_by (gives (took a k)) f e g = g a k refl e
-then_by (refuses n p) f e g = never e
+then_by (refuses n p) f e g = refuses-not e
 
 pub and-by : {A B X : Type 0} (r : Answer A) (f : A → Answer B) {b : B} → and_then r f ≡ gives b → ((a : A) → r ≡ gives a → f a ≡ gives b → X) → X
 and-by (gives a) f e g = g a refl e
-and-by (refuses n p) f e g = never e
+and-by (refuses n p) f e g = refuses-not e
 
 pub pick-ok : {A : Type 0} (t : Bool) (r : Answer A) (n p : ℕ) {a : A} → cond t r (refuses n p) ≡ gives a → (t ≡ true) × (r ≡ gives a)
 pick-ok true r n p e = (refl, e)
-pick-ok false r n p e = never e
+pick-ok false r n p e = refuses-not e
 
 -- what was read: bytes within the part, and they derive the tree
 pub record Follows (D : List ℕ → Type 0) (s : List ℕ) (k : ℕ) : Type 0 where

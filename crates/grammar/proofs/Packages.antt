@@ -8,23 +8,23 @@ use lib.Dec.{leb}
 use lib.ListN.{length, take, drop, length-drop}
 use lib.Seq.{take_all}
 use borrow.Author.Tests.{leb-true, leb-false}
-use Rattle.pkg_length.specs.Refusal.{Answer, gives, refuses, paper, block_limit}
+use Rattle.pkg_length.specs.Refusal.{Answer, gives, refuses, refused, paper, block_limit}
 use Rattle.pkg_length.specs.declared.AmlError.{AmlError}
-use Rattle.pkg_length.specs.declared.Refusal.{Refusal}
-use Rattle.pkg_length.specs.declared.PkgLength.{PkgLength}
-use Rattle.pkg_length.specs.declared.PkgAnswer.{PkgAnswer}
-use Rattle.pkg_length.specs.declared.PkgAnswer.TheVariants.{Read, Refused}
-use Rattle.pkg_length.specs.Pkg.{Raw, pkg_said, pkg_length_answer}
+use Rattle.pkg_length.specs.declared.AmlError.TheVariants.{UnexpectedEndOfStream, InvalidPkgLength}
+use Rattle.pkg_length.specs.declared.Raw.{Raw}
+use Rattle.pkg_length.specs.declared.Pkg.{Pkg}
+use Rattle.pkg_length.specs.Pkg.{pkg_length_answer}
 use Rattle.pkg_length.specs.Package.{Package, package_in}
+use Rattle.pkg_length.proofs.Papers.{case_of, case-is}
 use Rattle.pkg_length.proofs.Packages as below
 use Rattle.pkg_length.proofs.Packages.{Packs}
 use Rattle.grammar.specs.Reader.{moved, read_package}
 use Rattle.grammar.specs.Said.{Accepts}
-use Rattle.grammar.proofs.Answers.{never}
+use Rattle.pkg_length.proofs.Answers.{refuses-not}
 
 moved-gives : {A : Type 0} (p : ℕ) (r : Answer A) {a : A} → moved p r ≡ gives a → r ≡ gives a
 moved-gives p (gives x) e = e
-moved-gives p (refuses n q) e = never e
+moved-gives p (refuses n q) e = refuses-not e
 
 pub package-sound : (p : ℕ) (s : List ℕ) (w : Raw) → read_package p s ≡ gives w → Packs s w
 unfolding read_package
@@ -45,39 +45,42 @@ pub package-complete : {X : Type 0} {c b : List ℕ} → Package c b → (p : �
 unfolding read_package
 package-complete pk p r g = below.package-complete pk r λ w e₁ e₂ e₃ e₄. g w (ap (moved p) e₁) e₂ e₃ e₄
 
--- ## What the code reads by `pkg_length`, of a part from a place on
+-- ## What the code reads by `pkg_length`
 
 -- the part from a place to its end
 pub tail : (s : List ℕ) (at : ℕ) → take (length s - at) (drop at s) ≡ drop at s
 tail s at = take_all (length s - at) (drop at s) (omega (arith, length-drop at s))
 
-module _ (s : List ℕ) (at : ℕ) (short : length s ≤ block_limit) (v : PkgAnswer) (ev : pkg_said v ≡ pkg_length_answer (take (length s - at) (drop at s))) (p : ℕ) where
-  part-short : length (drop at s) ≤ block_limit
-  part-short = omega (arith, length-drop at s)
-
-  pub package-no : (x : AmlError) (r : Refusal) → v ≡ Refused x → r ≡ paper x →
-      (refuses r.0 (p + r.1) ≡ read_package p (drop at s)) × (r.1 ≤ length s - at) × ((r.0 ≡ 1 → ⊥) → r.0 ≡ 2)
+module _ (s : List ℕ) (short : length s ≤ block_limit) (p : ℕ) where
+  -- a refusal of the layer below, with its place moved
+  pub package-no : (x : AmlError) → refused x ≡ pkg_length_answer s →
+      (refuses (paper x).0 (p + (paper x).1) ≡ read_package p s) × ((paper x).1 ≤ length s) × (((paper x).0 ≡ 1 → ⊥) → (paper x).0 ≡ 2)
   unfolding read_package
-  package-no x r h e =
-      let k = below.package-no (drop at s) part-short (paper x).0 (paper x).1 (sym (ap pkg_said h) ∙ ev ∙ ap pkg_length_answer (tail s at)) in
-      rw e (ap (moved p) k.is, omega (arith, k.inside, length-drop at s), k.one-or-two)
+  package-no x e = let k = below.package-no s short (paper x).0 (paper x).1 e in (ap (moved p) k.is, k.inside, k.one-or-two)
 
-  module _ (l : PkgLength) (u : ℕ) (h : v ≡ Read l u) where
-    is : gives (record { length_read = l; used = u }) ≡ pkg_length_answer (drop at s)
-    is = sym (ap pkg_said h) ∙ ev ∙ ap pkg_length_answer (tail s at)
+  -- it is one of two
+  pub package-other : {X : Type 0} (x : AmlError) → refused x ≡ pkg_length_answer s →
+      ((q : ℕ) → x ≡ UnexpectedEndOfStream q → ⊥) → ((q : ℕ) → x ≡ InvalidPkgLength q → ⊥) → X
+  unfolding case_of
+  package-other x e one two =
+      let k = package-no x e in
+      let is = sym (case-is x) in
+      let ne : (paper x).0 ≡ 1 → ⊥ = λ h. one (paper x).1 (is ∙ ap (λ (n : ℕ). case_of n (paper x).1) h) in
+      absurd (two (paper x).1 (is ∙ ap (λ (n : ℕ). case_of n (paper x).1) (k.2 ne)))
 
-    pub package-early : l.raw_length < u → refuses 31 p ≡ read_package p (drop at s)
+  module _ (w : Pkg) (e : gives w ≡ pkg_length_answer s) where
+    pub package-early : w.length_read.raw_length < w.used → refuses 31 p ≡ read_package p s
     unfolding read_package
-    package-early lt = let q : p ≡ p + 0 = omega arith in ap (refuses 31) q ∙ ap (moved p) (below.package-early (drop at s) part-short l u is lt)
+    package-early lt = let q : p ≡ p + 0 = omega arith in ap (refuses 31) q ∙ ap (moved p) (below.package-early s short w.length_read w.used e lt)
 
-    pub package-yes : u ≤ l.raw_length → gives (record { raw = l.raw_length; used = u }) ≡ read_package p (drop at s)
+    pub package-yes : w.used ≤ w.length_read.raw_length → gives (record { raw = w.length_read.raw_length; used = w.used }) ≡ read_package p s
     unfolding read_package
-    package-yes le = ap (moved p) (below.package-yes (drop at s) part-short l u is le)
+    package-yes le = ap (moved p) (below.package-yes s short w.length_read w.used e le)
 
     -- a package that is known to be good
-    pub package-held : Accepts (read_package p (drop at s)) → gives (record { raw = l.raw_length; used = u }) ≡ read_package p (drop at s)
-    package-held acc = go (leb u l.raw_length) refl
+    pub package-held : Accepts (read_package p s) → gives (record { raw = w.length_read.raw_length; used = w.used }) ≡ read_package p s
+    package-held acc = go (leb w.used w.length_read.raw_length) refl
       where
-        go : (b : Bool) → leb u l.raw_length ≡ b → gives (record { raw = l.raw_length; used = u }) ≡ read_package p (drop at s)
-        go true e = package-yes (leb-true _ _ e)
-        go false e = absurd (subst (λ (R : Answer Raw). Accepts R) (sym (package-early (leb-false _ _ e))) acc)
+        go : (b : Bool) → leb w.used w.length_read.raw_length ≡ b → gives (record { raw = w.length_read.raw_length; used = w.used }) ≡ read_package p s
+        go true h = package-yes (leb-true _ _ h)
+        go false h = absurd (subst (λ (R : Answer Raw). Accepts R) (sym (package-early (leb-false _ _ h))) acc)

@@ -12,13 +12,14 @@ use Rattle.grammar.specs.Opcode.{is_cell_byte}
 use Rattle.grammar.specs.Tree.{Place, Target, nowhere, to, Term, Stmt, Stmts}
 use Rattle.grammar.specs.Grammar.{depth_limit}
 use Rattle.grammar.specs.Reader.{reads, then_read, read_place, read_dest, Operand, Operands, read_one, read_two, read_term, read_package, Head, read_head, else_by, read_else, read_if, read_list}
-use Rattle.grammar.proofs.Answers.{never, then_by, and-by, pick-ok, Takes}
+use Rattle.pkg_length.proofs.Answers.{refuses-not}
+use Rattle.grammar.proofs.Answers.{then_by, and-by, pick-ok, Takes}
 use Rattle.grammar.proofs.Terms.{term-sound, term-complete}
 use Rattle.grammar.proofs.Statements.{lists-sound, lists-complete}
 use Rattle.grammar.proofs.Packages.{package-any}
 
 pub cell-any : (p q : ℕ) (s : List ℕ) (c : Place) (k : ℕ) → read_place p s ≡ reads c k → read_place q s ≡ reads c k
-cell-any p q [] c k e = never e
+cell-any p q [] c k e = refuses-not e
 cell-any p q (b ∷ s) c k e = let (t, f) = pick-ok (is_cell_byte b) _ 3 p e in rw t f
 
 to-any : (p q : ℕ) (s : List ℕ) (x : Target) (k : ℕ) → then_read (read_place p s) (λ c k. reads (to c) k) ≡ reads x k → then_read (read_place q s) (λ c k. reads (to c) k) ≡ reads x k
@@ -27,7 +28,7 @@ to-any p q s x k e = then_by (read_place p s) _ e λ c j e₁ e₂. rw (cell-any
 pub dest-any : (d : Dest) (p q : ℕ) (s : List ℕ) (x : Target) (k : ℕ) → read_dest d p s ≡ reads x k → read_dest d q s ≡ reads x k
 dest-any Nowhere p q s x k e = e
 dest-any ToCell p q s x k e = to-any p q s x k e
-dest-any ToTarget p q [] x k e = never e
+dest-any ToTarget p q [] x k e = refuses-not e
 dest-any ToTarget p q (b ∷ s) x k e = go (eqb b 0) e
   where
     go : (t : Bool) → cond t (reads nowhere 1) (then_read (read_place p (b ∷ s)) (λ c k. reads (to c) k)) ≡ reads x k →

@@ -9,14 +9,15 @@ use lib.ListN.{length, take, drop, length-append, length-drop, take-append-drop}
 use lib.Seq.{drop-drop, take-add, drop-append_seam, take-append_seam}
 use borrow.Author.Tests.{eqb-true, leb-true, le-leb}
 use Rattle.pkg_length.specs.Refusal.{Answer, gives}
-use Rattle.pkg_length.specs.Pkg.{Raw}
+use Rattle.pkg_length.specs.declared.Raw.{Raw}
 use Rattle.grammar.specs.declared.opcode.StmtOp.{StmtOp}
 use Rattle.grammar.specs.declared.opcode.StmtOp.TheVariants.{Simple, Return, If, While, Expr, BadStmt}
 use Rattle.grammar.specs.Opcode.{term_op_at, stmt_op_at, look}
 use Rattle.grammar.specs.Tree.{Term, Stmt, if_else, expr, Stmts, nil, cons}
 use Rattle.grammar.specs.Grammar.{depth_limit, DTerm, DStmt, d-plain, d-return, d-if, d-while, d-expr, DHead, d-head, DElse, d-none, d-else, DStmts, d-nil, d-cons}
 use Rattle.grammar.specs.Reader.{Read, reads, read_term, read_package, Head, head, if_of, while_of, read_head, else_by, read_else, read_if, stmt_by, list_by, read_stmt, read_list}
-use Rattle.grammar.proofs.Answers.{never, then_by, and-by, pick-ok, Follows, Takes, as-follows, as-takes}
+use Rattle.pkg_length.proofs.Answers.{refuses-not}
+use Rattle.grammar.proofs.Answers.{then_by, and-by, pick-ok, Follows, Takes, as-follows, as-takes}
 use Rattle.pkg_length.proofs.Packages.{Packs}
 use Rattle.pkg_length.specs.Package.{Package}
 use Rattle.grammar.proofs.Packages.{package-sound, package-complete}
@@ -136,12 +137,12 @@ module _ (list : ℕ → List ℕ → Answer (Read Stmts)) (l : ℕ) (hb : ListS
   stmt-by p s x k b Expr o e =
       then_by (read_term depth_limit p (b ∷ s)) _ e λ u j e₁ e₂.
       as-takes (DStmt (suc l)) e₂ (expr-takes b s u j o (term-sound depth_limit p (b ∷ s) u j e₁))
-  stmt-by p s x k b BadStmt o e = never e
+  stmt-by p s x k b BadStmt o e = refuses-not e
 
 pub stmt-sound : (l : ℕ) → StmtSound (read_stmt l) l
 unfolding read_stmt
-stmt-sound zero p s x k e = never e
-stmt-sound (suc l) p [] x k e = never e
+stmt-sound zero p s x k e = refuses-not e
+stmt-sound (suc l) p [] x k e = refuses-not e
 stmt-sound (suc l) p (b ∷ s) x k e =
     stmt-by (read_list l) l (list-sound (read_stmt l) l (stmt-sound l) 0) p s x k b (stmt_op_at b) refl e
 
@@ -165,11 +166,11 @@ not-else b o e h = go (eqb b 0xA1) refl
 
 stmt-starts : {l : ℕ} {x : Stmt} {s : List ℕ} → DStmt l x s → (r : List ℕ) → starts-else (s ++ r) ≡ false
 unfolding starts-else
-stmt-starts (d-plain {b = b} {o = o} e) r = not-else b (Simple o) e (λ q. let z : ◌≡◌ {A = ℕ} 0 1 = cc in omega arith)
-stmt-starts (d-return {b = b} e d) r = not-else b Return e (λ q. let z : ◌≡◌ {A = ℕ} 0 1 = cc in omega arith)
-stmt-starts (d-if {b = b} e d f) r = not-else b If e (λ q. let z : ◌≡◌ {A = ℕ} 0 1 = cc in omega arith)
-stmt-starts (d-while {b = b} e d) r = not-else b While e (λ q. let z : ◌≡◌ {A = ℕ} 0 1 = cc in omega arith)
-stmt-starts (d-expr {b = b} e d) r = not-else b Expr e (λ q. let z : ◌≡◌ {A = ℕ} 0 1 = cc in omega arith)
+stmt-starts (d-plain {b = b} {o = o} e) r = not-else b (Simple o) e (λ q. cc)
+stmt-starts (d-return {b = b} e d) r = not-else b Return e (λ q. cc)
+stmt-starts (d-if {b = b} e d f) r = not-else b If e (λ q. cc)
+stmt-starts (d-while {b = b} e d) r = not-else b While e (λ q. cc)
+stmt-starts (d-expr {b = b} e d) r = not-else b Expr e (λ q. cc)
 
 stmts-starts : {l : ℕ} {xs : Stmts} {s : List ℕ} → DStmts l xs s → starts-else s ≡ false
 unfolding starts-else

@@ -23,7 +23,7 @@ all_head false b e = e
 
 all_tail : (a b : Bool) → cond a b false ≡ true → b ≡ true
 all_tail true b e = e
-all_tail false b e = absurd (let z : ◌≡◌ {A = ℕ} 0 1 = cc in omega arith)
+all_tail false b e = absurd (cc)
 
 look-all : {A : Type 0} (P : A → Bool) (rows : List (Row A)) (other : A) (b : ℕ) → all P rows ≡ true → P other ≡ true → P (look rows other b) ≡ true
 unfolding look all
@@ -37,8 +37,8 @@ is-cell b e = go (leb 0x60 b) (leb b 0x6E) refl refl e
   where
     go : (x y : Bool) → leb 0x60 b ≡ x → leb b 0x6E ≡ y → cond x y false ≡ true → (0x60 ≤ b) × (b ≤ 0x6E)
     go true true e f h = (leb-true _ _ e, leb-true _ _ f)
-    go true false e f h = absurd (let z : ◌≡◌ {A = ℕ} 0 1 = cc in omega arith)
-    go false y e f h = absurd (let z : ◌≡◌ {A = ℕ} 0 1 = cc in omega arith)
+    go true false e f h = absurd (cc)
+    go false y e f h = absurd (cc)
 
 pub cell-is : (b : ℕ) → 0x60 ≤ b → b ≤ 0x6E → is_cell_byte b ≡ true
 cell-is b lo hi = rw (le-leb 0x60 b lo, le-leb b 0x6E hi)
@@ -70,12 +70,12 @@ op-cell b c e = go (is_cell_byte b) refl e
         let e : b - 0x60 ≡ c = cc in
         let r = is-cell b q in
         (q, sym e, omega (arith, r))
-    go false q h = absurd (let f : false ≡ true = sym (ap other-op h) ∙ rows_other b in let z : ◌≡◌ {A = ℕ} 0 1 = cc in omega arith)
+    go false q h = absurd (let f : false ≡ true = sym (ap other-op h) ∙ rows_other b in cc)
 
 pub op_bytes : (b n : ℕ) → term_op_at b ≡ Bytes n → n ≤ 8
 unfolding term_op_at other-op
 op_bytes b n e = go (is_cell_byte b) refl e
   where
     go : (t : Bool) → is_cell_byte b ≡ t → cond t (Cell (b - 0x60)) (look term_rows BadTerm b) ≡ Bytes n → n ≤ 8
-    go true q h = absurd (let z : ◌≡◌ {A = ℕ} 0 1 = cc in omega arith)
+    go true q h = absurd (cc)
     go false q h = leb-true n 8 (sym (ap other-op h) ∙ rows_other b)

@@ -18,7 +18,8 @@ use Rattle.grammar.specs.Opcode.{is_cell_byte, term_op_at}
 use Rattle.grammar.specs.Tree.{Place, cell, Target, nowhere, to, Term, const, read}
 use Rattle.grammar.specs.Grammar.{DPlace, d_cell, DDest, d_nowhere, d_to_cell, d_null, d_target, DTerm, d_constant, d_bytes, d_read, d_step, d_one, d_two}
 use Rattle.grammar.specs.Reader.{Read, reads, then_read, read_bytes, read_place, read_target, read_dest, Operand, operand, Operands, operands, before, read_one, read_two, one_of, two_of, term_by, read_term}
-use Rattle.grammar.proofs.Answers.{never, then_by, pick-ok, Follows, Takes, as-follows, as-takes}
+use Rattle.pkg_length.proofs.Answers.{refuses-not}
+use Rattle.grammar.proofs.Answers.{then_by, pick-ok, Follows, Takes, as-follows, as-takes}
 use Rattle.grammar.proofs.Tables.{is-cell, cell-is, cell_op, op-cell}
 
 -- ## Sound: what is read, the grammar derives
@@ -30,7 +31,7 @@ cell-byte b e =
     subst (λ (x : ℕ). DPlace (cell (b - 0x60)) (x ∷ [])) q (d_cell (omega (arith, r)))
 
 pub cell-sound : (p : ℕ) (s : List ℕ) (c : Place) (k : ℕ) → read_place p s ≡ reads c k → Takes (DPlace c) s k
-cell-sound p [] c k e = never e
+cell-sound p [] c k e = refuses-not e
 cell-sound p (b ∷ s) c k e =
     let (t, f) = pick-ok (is_cell_byte b) _ 3 p e in
     as-takes DPlace f (record { some = omega arith; fits = omega arith; derives = cell-byte b t })
@@ -43,7 +44,7 @@ to_cell d make p s x k e =
     as-follows (DDest d) e₂ (record { fits = h.fits; derives = make c (take j s) h.derives })
 
 target_sound : (p : ℕ) (s : List ℕ) (x : Target) (k : ℕ) → read_target p s ≡ reads x k → Follows (DDest ToTarget x) s k
-target_sound p [] x k e = never e
+target_sound p [] x k e = refuses-not e
 target_sound p (b ∷ s) x k e = go (eqb b 0) refl e
   where
     go : (t : Bool) → eqb b 0 ≡ t → cond t (reads nowhere 1) (then_read (read_place p (b ∷ s)) (λ c k. reads (to c) k)) ≡ reads x k → Follows (DDest ToTarget x) (b ∷ s) k
@@ -137,12 +138,12 @@ term-by term l ih p b s t k (One x d) o e =
 term-by term l ih p b s t k (Two x d) o e =
     then_by (read_two term d (suc p) s) _ e λ y j e₁ e₂.
     as-takes (DTerm (suc l)) e₂ (next (λ w. two-term o) (two-sound term l ih d (suc p) s y j e₁))
-term-by term l ih p b s t k BadTerm o e = never e
+term-by term l ih p b s t k BadTerm o e = refuses-not e
 
 pub term-sound : (l : ℕ) → TermSound (read_term l) l
 unfolding read_term
-term-sound zero p s t k e = never e
-term-sound (suc l) p [] t k e = never e
+term-sound zero p s t k e = refuses-not e
+term-sound (suc l) p [] t k e = refuses-not e
 term-sound (suc l) p (b ∷ s) t k e = term-by (read_term l) l (term-sound l) p b s t k (term_op_at b) refl e
 
 -- ## Complete: what the grammar derives is read, whatever follows

@@ -3,7 +3,7 @@
 use Rattle.std.specs.Prelude.{ℕ, zero, suc, ◌+◌, ◌-◌, Bool, true, false, cond, List, [], ◌∷◌, leb, eqb, length, take, drop}
 use Rattle.pkg_length.specs.Refusal.{Answer, gives, refuses, and_then, ends_early, block_limit}
 use Rattle.pkg_length.specs.Little.{little}
-use Rattle.pkg_length.specs.Pkg.{Raw}
+use Rattle.pkg_length.specs.declared.Raw.{Raw}
 use Rattle.pkg_length.specs.Package.{package_in}
 use Rattle.grammar.specs.declared.opcode.OneOp.{OneOp}
 use Rattle.grammar.specs.declared.opcode.TwoOp.{TwoOp}

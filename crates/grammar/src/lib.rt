@@ -8,23 +8,20 @@ use pkg_length::AmlError;
 pub mod opcode;
 mod read;
 mod term;
+mod unread;
 
-#[derive(Clone, Copy)]
-pub enum CheckAnswer {
-    Accepted,
-    Refused(AmlError),
-}
+use unread::Unread;
 
 // Whether a block is well formed: the grammar derives it, within the limits.
-pub fn check(block: &[u8]) -> CheckAnswer
+pub fn check(block: &[u8]) -> Result<(), AmlError>
     ensures { Checked block.now result }
 {
     if 65536 < block.len() {
-        return CheckAnswer::Refused(AmlError::BlockTooLong);
+        return Err(AmlError::BlockTooLong);
     }
-    let r = read::term_list(block, 0, 16);
-    if r.0 == term::NEXT {
-        return CheckAnswer::Accepted;
-    }
-    CheckAnswer::Refused(term::refusal(r))
+    let whole = Unread {
+        bytes: block,
+        place: 0,
+    };
+    whole.term_list(16)
 }

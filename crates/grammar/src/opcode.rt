@@ -1,4 +1,5 @@
-// The opcodes of control blocks under the Rust's names (opcode.rs), and what each byte starts.
+// The opcodes of control blocks under the Rust's names (opcode.rs), and what each byte starts. An opcode stays a constant: it is a byte of a block, which no enum
+// need hold, and what it starts is an enum below.
 ghost use Rattle.std.specs.Prelude.{◌≡◌};
 ghost use Rattle.grammar.specs.Opcode.{is_cell_byte, stmt_op_of, term_op_at, stmt_op_at};
 
@@ -76,7 +77,7 @@ pub const LOCAL0_OP: u8 = 0x60;
 pub const ARG6_OP: u8 = 0x6e;
 
 // Statements of one byte.
-#[derive(Clone, Copy)]
+#[derive(Clone, Copy, Debug, PartialEq, Eq)]
 pub enum Plain {
     Break,
     Continue,
@@ -85,13 +86,13 @@ pub enum Plain {
 }
 
 // Operators by shape: a new one is a row of `term_op`, and of the function that works it out.
-#[derive(Clone, Copy)]
+#[derive(Clone, Copy, Debug, PartialEq, Eq)]
 pub enum StepOp {
     Increment,
     Decrement,
 }
 
-#[derive(Clone, Copy)]
+#[derive(Clone, Copy, Debug, PartialEq, Eq)]
 pub enum OneOp {
     Store,
     Not,
@@ -100,7 +101,7 @@ pub enum OneOp {
     LNot,
 }
 
-#[derive(Clone, Copy)]
+#[derive(Clone, Copy, Debug, PartialEq, Eq)]
 pub enum TwoOp {
     Add,
     Subtract,
@@ -115,15 +116,16 @@ pub enum TwoOp {
 }
 
 // Where an operator's result may be written: nowhere, to a cell, or to a target, which is a cell or 00.
-#[derive(Clone, Copy)]
+#[derive(Clone, Copy, Debug, PartialEq, Eq)]
 pub enum Dest {
     Nowhere,
     ToCell,
     ToTarget,
 }
 
-// What a byte starts as a term, by shape: a number, a number of so many bytes, a cell, a step of a cell, an operator of one or of two operands.
-#[derive(Clone, Copy)]
+// What a byte starts as a term, by shape: a number, a number of so many bytes, a cell, a step of a cell, an operator of one or of two operands. BadTerm stays a
+// case beside them, and no Option around them: `term_op_at`, of which the theorems speak, gives it of every byte that has no row.
+#[derive(Clone, Copy, Debug, PartialEq, Eq)]
 pub enum TermOp {
     Constant(u64),
     Bytes(usize),
@@ -134,7 +136,8 @@ pub enum TermOp {
     BadTerm,
 }
 
-#[derive(Clone, Copy)]
+// What a byte starts as a statement; BadStmt stays a case as BadTerm does (`stmt_op_at`).
+#[derive(Clone, Copy, Debug, PartialEq, Eq)]
 pub enum StmtOp {
     Simple(Plain),
     Return,
@@ -147,25 +150,16 @@ pub enum StmtOp {
 pub fn is_cell(b: u8) -> bool
     ensures { result ≡ is_cell_byte b }
 {
-    if b < LOCAL0_OP {
-        return false;
-    }
-    b <= ARG6_OP
+    matches!(b, LOCAL0_OP..=ARG6_OP)
 }
 
-fn wide(b: u8) -> usize
-    ensures { result ≡ b }
-{
-    b as usize
-}
-
+// The table of terms. No From: `term_op(b)` says that the byte is an opcode, and `TermOp::from(b)` would not.
+#[tactic(auto, unfolding(crate::specs::Opcode::term_op_at, crate::specs::Opcode::look))]
 pub fn term_op(b: u8) -> TermOp
     ensures { result ≡ term_op_at b }
 {
-    if is_cell(b) {
-        return TermOp::Cell(wide(b - LOCAL0_OP));
-    }
     match b {
+        LOCAL0_OP..=ARG6_OP => TermOp::Cell(usize::from(b - LOCAL0_OP)),
         ZERO_OP => TermOp::Constant(0),
         ONE_OP => TermOp::Constant(1),
         ONES_OP => TermOp::Constant(0xffff_ffff_ffff_ffff),
@@ -195,6 +189,7 @@ pub fn term_op(b: u8) -> TermOp
 }
 
 // A statement of its own, or what it is as a term.
+#[tactic(auto, unfolding(crate::specs::Opcode::stmt_op_at, crate::specs::Opcode::look))]
 pub(crate) fn stmt_op(b: u8) -> StmtOp
     ensures { result ≡ stmt_op_at b }
 {
@@ -215,12 +210,9 @@ fn as_stmt(op: TermOp) -> StmtOp
     ensures { result ≡ stmt_op_of op }
 {
     match op {
-        TermOp::Constant(_) => StmtOp::BadStmt,
-        TermOp::Bytes(_) => StmtOp::BadStmt,
-        TermOp::Cell(_) => StmtOp::BadStmt,
-        TermOp::Step(_) => StmtOp::Expr,
-        TermOp::One(_, _) => StmtOp::Expr,
-        TermOp::Two(_, _) => StmtOp::Expr,
-        TermOp::BadTerm => StmtOp::BadStmt,
+        TermOp::Step(_) | TermOp::One(_, _) | TermOp::Two(_, _) => StmtOp::Expr,
+        TermOp::Constant(_) | TermOp::Bytes(_) | TermOp::Cell(_) | TermOp::BadTerm => {
+            StmtOp::BadStmt
+        }
     }
 }

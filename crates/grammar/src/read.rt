@@ -1,143 +1,115 @@
-// Reading a list of statements without running it, as term.rt reads terms: a body is a part that begins inside its block, at `base`.
-ghost use Rattle.std.specs.Prelude.{◌≡◌, ◌+◌, ◌≤◌, ◌<◌, length, drop};
-ghost use Rattle.pkg_length.specs.Refusal.{block_limit};
+// Reading a list of statements without running it, as term.rt reads terms: a body is a part of its own.
+ghost use Rattle.std.specs.Prelude.{◌≡◌, ◌<◌, length};
+ghost use Rattle.pkg_length.specs.Refusal.{said};
 ghost use Rattle.grammar.specs.Reader.{read_package, read_head, read_else, read_if, read_stmt, read_list};
-ghost use Rattle.grammar.specs.Said.{reached, packed, up_to};
+ghost use Rattle.grammar.specs.Said.{read_by, read_through};
 
 use crate::opcode;
 use crate::opcode::StmtOp;
-use crate::term::{
-    BAD_OPCODE, ENDS_EARLY, INVALID_LENGTH, NEXT, Reach, TOO_DEEP, UNEXPECTED_END, term_arg,
-};
-use pkg_length::PkgAnswer;
+use crate::unread::Unread;
+use pkg_length::{AmlError, Pkg, Raw};
 
-// A package's raw length, if reading goes on, and how many bytes spell it.
-#[derive(Clone, Copy)]
-pub struct Package(pub Reach, pub usize);
-
-// A package length, by the layer below: the place that it gives counts from `at`. A package holds its own length's bytes.
-fn pkg(part: &[u8], base: usize, at: usize) -> Package
-    requires { (at ≤ length part.now) × (base + length part.now ≤ block_limit) }
-    ensures { packed result ≡ read_package (base + at) (drop at part.now) }
-{
-    let w = pkg_length::pkg_length(&part[at..]);
-    match w {
-        PkgAnswer::Refused(e) => {
-            let r = e.numbered();
-            let place = base + at + r.1;
-            if r.0 == 1 {
-                return Package(Reach(UNEXPECTED_END, place), 0);
+impl<'a> Unread<'a> {
+    // A package length, by the layer below: the place of its refusal counts from here. A package holds its own length's bytes.
+    fn pkg(self) -> Result<Raw, AmlError>
+        ensures { said result ≡ read_package self.entry.place self.entry.bytes.now }
+    {
+        match pkg_length::pkg_length(self.bytes) {
+            Ok(Pkg { length_read, used }) => {
+                let raw = length_read.raw_length;
+                if raw < used {
+                    return Err(AmlError::PackageEndsEarly(self.place));
+                }
+                Ok(Raw { raw, used })
             }
-            Package(Reach(INVALID_LENGTH, place), 0)
+            Err(e) => Err(match e {
+                AmlError::UnexpectedEndOfStream(end) => {
+                    AmlError::UnexpectedEndOfStream(self.place + end)
+                }
+                AmlError::InvalidPkgLength(lead) => AmlError::InvalidPkgLength(self.place + lead),
+                other => other,
+            }),
         }
-        PkgAnswer::Read(length, used) => {
-            if length.raw_length < used {
-                return Package(Reach(ENDS_EARLY, base + at), used);
-            }
-            Package(Reach(NEXT, length.raw_length), used)
+    }
+
+    // A part's statements, to its end.
+    #[tactic(auto, using(crate::proofs::Reaches::stmt_in, crate::proofs::Reaches::list_more, crate::proofs::Reaches::list_stop, crate::proofs::Reaches::list_end, pkg_length::proofs::Answers::residual))]
+    #[cycle(statements)]
+    pub(crate) fn term_list(self, left: usize) -> Result<(), AmlError>
+        ensures { said result ≡ read_through (read_list left self.entry.place self.entry.bytes.now) }
+    {
+        let mut rest = self;
+        // No `for`: a statement takes as many bytes as it needs, so nothing counts the turns before they are over.
+        while !rest.bytes.is_empty() {
+            let behind = rest.statement_opcode(left)?;
+            rest = rest.onward(behind);
+        }
+        Ok(())
+    }
+
+    #[tactic(auto, unfolding(crate::specs::Reader::read_stmt))]
+    #[cycle(statements)]
+    fn statement_opcode(self, left: usize) -> Result<usize, AmlError>
+        requires { 0 < length self.bytes.now }
+        ensures { said result ≡ read_by (read_stmt left) self.entry }
+    {
+        if left == 0 {
+            return Err(AmlError::TooDeep(self.place));
+        }
+        match opcode::stmt_op(self.bytes[0]) {
+            StmtOp::Simple(_) => Ok(self.place + 1),
+            StmtOp::Return => self.next().term_arg(16),
+            StmtOp::If => self.next().def_if_else(left - 1),
+            StmtOp::While => self.next().predicate_and_body(left - 1),
+            StmtOp::Expr => self.term_arg(16),
+            StmtOp::BadStmt => Err(AmlError::BadOpcode(self.place)),
         }
     }
-}
 
-// A part's statements, to its end.
-#[cycle(statements)]
-pub(crate) fn term_list(part: &[u8], base: usize, left: usize) -> Reach
-    requires { base + length part.now ≤ block_limit }
-    ensures { reached result ≡ up_to 0 (read_list left base part.now) }
-{
-    let mut at = 0;
-    while at < part.len() {
-        let r = statement_opcode(part, base, at, left);
-        if r.0 != NEXT {
-            return r;
+    // A package of a predicate and a body, an If's or a While's. The predicate is read against the part that holds the package; if it goes past the
+    // package's end, it needed the byte there.
+    #[tactic(auto, using(crate::proofs::Reaches::package_within, crate::proofs::Reaches::term_in, crate::proofs::Reaches::head_no_package, pkg_length::proofs::Answers::residual))]
+    #[cycle(statements)]
+    fn predicate_and_body(self, left: usize) -> Result<usize, AmlError>
+        ensures { said result ≡ read_by (read_head (read_list left)) self.entry }
+    {
+        let package = self.pkg()?;
+        let end = self.place + package.raw;
+        let body = self.onward(self.place + package.used).term_arg(16)?;
+        if end < body {
+            return Err(AmlError::PackageEndsEarly(end));
         }
-        at = r.1;
+        self.body(body, end).term_list(left)?;
+        Ok(end)
     }
-    Reach(NEXT, at)
-}
 
-#[cycle(statements)]
-fn statement_opcode(part: &[u8], base: usize, at: usize, left: usize) -> Reach
-    requires { (at < length part.now) × (base + length part.now ≤ block_limit) }
-    ensures { reached result ≡ up_to at (read_stmt left (base + at) (drop at part.now)) }
-{
-    if left == 0 {
-        return Reach(TOO_DEEP, base + at);
+    // An If from its package on.
+    #[tactic(auto, using(crate::proofs::Reaches::head_in, crate::proofs::Reaches::stops, pkg_length::proofs::Answers::residual), unfolding(crate::specs::Reader::read_if))]
+    #[cycle(statements)]
+    fn def_if_else(self, left: usize) -> Result<usize, AmlError>
+        ensures { said result ≡ read_by (read_if (read_list left)) self.entry }
+    {
+        let behind = self.predicate_and_body(left)?;
+        self.onward(behind).def_else(left)
     }
-    let op = opcode::stmt_op(part[at]);
-    match op {
-        StmtOp::Simple(_) => Reach(NEXT, at + 1),
-        StmtOp::Return => term_arg(part, base, at + 1, 16),
-        StmtOp::If => def_if_else(part, base, at + 1, left - 1),
-        StmtOp::While => predicate_and_body(part, base, at + 1, left - 1),
-        StmtOp::Expr => term_arg(part, base, at, 16),
-        StmtOp::BadStmt => Reach(BAD_OPCODE, base + at),
-    }
-}
 
-// A package of a predicate and a body, an If's or a While's. The predicate is read against the part that holds the package; if it goes past the
-// package's end, it needed the byte there.
-#[cycle(statements)]
-fn predicate_and_body(part: &[u8], base: usize, at: usize, left: usize) -> Reach
-    requires { (at ≤ length part.now) × (base + length part.now ≤ block_limit) }
-    ensures { reached result ≡ up_to at (read_head (read_list left) (base + at) (drop at part.now)) }
-{
-    let w = pkg(part, base, at);
-    let raw = w.0;
-    if raw.0 != NEXT {
-        return raw;
+    // What follows an If's package: an else, or nothing.
+    #[tactic(auto, using(crate::proofs::Reaches::package_within, crate::proofs::Reaches::else_no_package, pkg_length::proofs::Answers::residual), unfolding(crate::specs::Reader::read_else))]
+    #[cycle(statements)]
+    fn def_else(self, left: usize) -> Result<usize, AmlError>
+        ensures { said result ≡ read_by (read_else (read_list left)) self.entry }
+    {
+        let [first, ..] = self.bytes else {
+            return Ok(self.place);
+        };
+        if *first != opcode::DEF_ELSE_OP {
+            return Ok(self.place);
+        }
+        let behind = self.next();
+        let package = behind.pkg()?;
+        let body = behind.place + package.used;
+        let end = behind.place + package.raw;
+        behind.body(body, end).term_list(left)?;
+        Ok(end)
     }
-    let t = term_arg(part, base, at + w.1, 16);
-    if t.0 != NEXT {
-        return t;
-    }
-    let body = t.1;
-    let end = at + raw.1;
-    if end < body {
-        return Reach(ENDS_EARLY, base + end);
-    }
-    let r = term_list(&part[body..end], base + body, left);
-    if r.0 != NEXT {
-        return r;
-    }
-    Reach(NEXT, end)
-}
-
-// An If from its package on.
-#[cycle(statements)]
-fn def_if_else(part: &[u8], base: usize, at: usize, left: usize) -> Reach
-    requires { (at ≤ length part.now) × (base + length part.now ≤ block_limit) }
-    ensures { reached result ≡ up_to at (read_if (read_list left) (base + at) (drop at part.now)) }
-{
-    let h = predicate_and_body(part, base, at, left);
-    if h.0 != NEXT {
-        return h;
-    }
-    def_else(part, base, h.1, left)
-}
-
-// What follows an If's package: an else, or nothing.
-#[cycle(statements)]
-fn def_else(part: &[u8], base: usize, at: usize, left: usize) -> Reach
-    requires { (at ≤ length part.now) × (base + length part.now ≤ block_limit) }
-    ensures { reached result ≡ up_to at (read_else (read_list left) (base + at) (drop at part.now)) }
-{
-    if part.len() <= at {
-        return Reach(NEXT, at);
-    }
-    if part[at] != opcode::DEF_ELSE_OP {
-        return Reach(NEXT, at);
-    }
-    let w = pkg(part, base, at + 1);
-    let raw = w.0;
-    if raw.0 != NEXT {
-        return raw;
-    }
-    let body = at + 1 + w.1;
-    let end = at + 1 + raw.1;
-    let r = term_list(&part[body..end], base + body, left);
-    if r.0 != NEXT {
-        return r;
-    }
-    Reach(NEXT, end)
 }

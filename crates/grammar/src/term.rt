@@ -1,141 +1,99 @@
-// Reading a term without running it: each function goes over the bytes of a part from `at` on, and answers where reading goes on, or the refusal.
-// `base` is where the part begins in its block, and `left` how many depths are left.
-ghost use Rattle.std.specs.Prelude.{◌≡◌, ◌+◌, ◌≤◌, length, drop};
-ghost use Rattle.pkg_length.specs.Refusal.{block_limit};
-ghost use Rattle.grammar.specs.Reader.{read_bytes, read_place, read_dest, read_one, read_two, read_term};
-ghost use Rattle.grammar.specs.Said.{refusal_of, reached, up_to};
+// Reading a term without running it: each method answers the place in the block where reading goes on, or the refusal. `left` is how many depths are left.
+ghost use Rattle.std.specs.Prelude.{◌≡◌};
+ghost use Rattle.pkg_length.specs.Refusal.{said};
+ghost use Rattle.grammar.specs.Reader.{read_bytes, read_place, read_target, read_dest, read_one, read_two, read_term};
+ghost use Rattle.grammar.specs.Said.{read_by};
 
 use crate::opcode;
 use crate::opcode::{Dest, TermOp};
+use crate::unread::Unread;
 use pkg_length::AmlError;
 
-// What is said, and a place: NEXT, and where reading goes on; or a refusal, and its place. Two numbers, since an enum here makes the check twice as slow.
-#[derive(Clone, Copy)]
-pub struct Reach(pub usize, pub usize);
-
-pub const NEXT: usize = 0;
-
-pub const UNEXPECTED_END: usize = 1;
-
-pub const INVALID_LENGTH: usize = 2;
-
-pub const BAD_OPCODE: usize = 3;
-
-pub const TOO_DEEP: usize = 4;
-
-pub const ENDS_EARLY: usize = 31;
-
-// The refusal of an answer that is not NEXT.
-pub(crate) fn refusal(r: Reach) -> AmlError
-    ensures { result ≡ refusal_of r }
-{
-    let said = r.0;
-    let at = r.1;
-    match said {
-        UNEXPECTED_END => AmlError::UnexpectedEndOfStream(at),
-        INVALID_LENGTH => AmlError::InvalidPkgLength(at),
-        BAD_OPCODE => AmlError::BadOpcode(at),
-        ENDS_EARLY => AmlError::PackageEndsEarly(at),
-        _ => AmlError::TooDeep(at),
+impl<'a> Unread<'a> {
+    // A constant's n bytes.
+    fn constant(self, n: usize) -> Result<usize, AmlError>
+        ensures { said result ≡ read_by (read_bytes n) self.entry }
+    {
+        if self.bytes.len() < n {
+            return Err(AmlError::UnexpectedEndOfStream(self.place + self.bytes.len()));
+        }
+        Ok(self.place + n)
     }
-}
 
-// A constant's n bytes.
-fn bytes(part: &[u8], base: usize, at: usize, n: usize) -> Reach
-    requires { (at ≤ length part.now) × (base + length part.now ≤ block_limit) }
-    ensures { reached result ≡ up_to at (read_bytes n (base + at) (drop at part.now)) }
-{
-    if part.len() - at < n {
-        return Reach(UNEXPECTED_END, base + part.len());
+    // A written cell.
+    fn cell(self) -> Result<usize, AmlError>
+        ensures { said result ≡ read_by read_place self.entry }
+    {
+        let [first, ..] = self.bytes else {
+            return Err(AmlError::UnexpectedEndOfStream(self.place));
+        };
+        if !opcode::is_cell(*first) {
+            return Err(AmlError::BadOpcode(self.place));
+        }
+        Ok(self.place + 1)
     }
-    Reach(NEXT, at + n)
-}
 
-// A written cell.
-fn cell(part: &[u8], base: usize, at: usize) -> Reach
-    requires { (at ≤ length part.now) × (base + length part.now ≤ block_limit) }
-    ensures { reached result ≡ up_to at (read_place (base + at) (drop at part.now)) }
-{
-    if part.len() <= at {
-        return Reach(UNEXPECTED_END, base + at);
+    // Where an operator's result goes.
+    fn dest(self, d: Dest) -> Result<usize, AmlError>
+        ensures { said result ≡ read_by (read_dest d) self.entry }
+    {
+        match d {
+            Dest::Nowhere => Ok(self.place),
+            Dest::ToCell => self.cell(),
+            Dest::ToTarget => self.target(),
+        }
     }
-    if opcode::is_cell(part[at]) {
-        Reach(NEXT, at + 1)
-    } else {
-        Reach(BAD_OPCODE, base + at)
-    }
-}
 
-// Where an operator's result goes.
-fn dest(part: &[u8], base: usize, at: usize, d: Dest) -> Reach
-    requires { (at ≤ length part.now) × (base + length part.now ≤ block_limit) }
-    ensures { reached result ≡ up_to at (read_dest d (base + at) (drop at part.now)) }
-{
-    match d {
-        Dest::Nowhere => Reach(NEXT, at),
-        Dest::ToCell => cell(part, base, at),
-        Dest::ToTarget => target(part, base, at),
+    fn target(self) -> Result<usize, AmlError>
+        ensures { said result ≡ read_by read_target self.entry }
+    {
+        let [first, ..] = self.bytes else {
+            return Err(AmlError::UnexpectedEndOfStream(self.place));
+        };
+        if *first == opcode::NULL_NAME {
+            return Ok(self.place + 1);
+        }
+        self.cell()
     }
-}
 
-fn target(part: &[u8], base: usize, at: usize) -> Reach
-    requires { (at ≤ length part.now) × (base + length part.now ≤ block_limit) }
-    ensures { reached result ≡ up_to at (read_dest Dest.ToTarget (base + at) (drop at part.now)) }
-{
-    if part.len() <= at {
-        return Reach(UNEXPECTED_END, base + at);
+    #[tactic(auto, unfolding(crate::specs::Reader::read_term))]
+    #[cycle(terms)]
+    pub(crate) fn term_arg(self, left: usize) -> Result<usize, AmlError>
+        ensures { said result ≡ read_by (read_term left) self.entry }
+    {
+        if left == 0 {
+            return Err(AmlError::TooDeep(self.place));
+        }
+        let [first, ..] = self.bytes else {
+            return Err(AmlError::UnexpectedEndOfStream(self.place));
+        };
+        match opcode::term_op(*first) {
+            TermOp::Constant(_) | TermOp::Cell(_) => Ok(self.place + 1),
+            TermOp::Bytes(n) => self.next().constant(n),
+            TermOp::Step(_) => self.next().cell(),
+            TermOp::One(_, d) => self.next().one(left - 1, d),
+            TermOp::Two(_, d) => self.next().two(left - 1, d),
+            TermOp::BadTerm => Err(AmlError::BadOpcode(self.place)),
+        }
     }
-    if part[at] == opcode::NULL_NAME {
-        return Reach(NEXT, at + 1);
-    }
-    cell(part, base, at)
-}
 
-#[cycle(terms)]
-pub(crate) fn term_arg(part: &[u8], base: usize, at: usize, left: usize) -> Reach
-    requires { (at ≤ length part.now) × (base + length part.now ≤ block_limit) }
-    ensures { reached result ≡ up_to at (read_term left (base + at) (drop at part.now)) }
-{
-    if left == 0 {
-        return Reach(TOO_DEEP, base + at);
+    // An operand, and where the result goes.
+    #[tactic(auto, using(crate::proofs::Reaches::term_in, crate::proofs::Reaches::stops, pkg_length::proofs::Answers::residual), unfolding(crate::specs::Reader::read_one))]
+    #[cycle(terms)]
+    fn one(self, left: usize, d: Dest) -> Result<usize, AmlError>
+        ensures { said result ≡ read_by (read_one (read_term left) d) self.entry }
+    {
+        let behind = self.term_arg(left)?;
+        self.onward(behind).dest(d)
     }
-    if part.len() <= at {
-        return Reach(UNEXPECTED_END, base + at);
-    }
-    let op = opcode::term_op(part[at]);
-    match op {
-        TermOp::Constant(_) => Reach(NEXT, at + 1),
-        TermOp::Bytes(n) => bytes(part, base, at + 1, n),
-        TermOp::Cell(_) => Reach(NEXT, at + 1),
-        TermOp::Step(_) => cell(part, base, at + 1),
-        TermOp::One(_, d) => one(part, base, at + 1, left - 1, d),
-        TermOp::Two(_, d) => two(part, base, at + 1, left - 1, d),
-        TermOp::BadTerm => Reach(BAD_OPCODE, base + at),
-    }
-}
 
-// An operand, and where the result goes.
-#[cycle(terms)]
-fn one(part: &[u8], base: usize, at: usize, left: usize, d: Dest) -> Reach
-    requires { (at ≤ length part.now) × (base + length part.now ≤ block_limit) }
-    ensures { reached result ≡ up_to at (read_one (read_term left) d (base + at) (drop at part.now)) }
-{
-    let r = term_arg(part, base, at, left);
-    if r.0 != NEXT {
-        return r;
+    // An operand before that. It is like `one`, and `def_if_else`, in its words alone: one function for the three would take both readers, and be no shorter.
+    #[tactic(auto, using(crate::proofs::Reaches::term_in, crate::proofs::Reaches::stops, pkg_length::proofs::Answers::residual), unfolding(crate::specs::Reader::read_two))]
+    #[cycle(terms)]
+    fn two(self, left: usize, d: Dest) -> Result<usize, AmlError>
+        ensures { said result ≡ read_by (read_two (read_term left) d) self.entry }
+    {
+        let behind = self.term_arg(left)?;
+        self.onward(behind).one(left, d)
     }
-    dest(part, base, r.1, d)
-}
-
-// An operand before that.
-#[cycle(terms)]
-fn two(part: &[u8], base: usize, at: usize, left: usize, d: Dest) -> Reach
-    requires { (at ≤ length part.now) × (base + length part.now ≤ block_limit) }
-    ensures { reached result ≡ up_to at (read_two (read_term left) d (base + at) (drop at part.now)) }
-{
-    let r = term_arg(part, base, at, left);
-    if r.0 != NEXT {
-        return r;
-    }
-    one(part, base, r.1, left, d)
 }

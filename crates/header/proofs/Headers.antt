@@ -1,8 +1,8 @@
 -- What the definition of a header answers at each of its tests, one law for each return of the code; and what a header that is given came from.
 use mathlib.Core.Path.{◌≡◌, refl, sym, ◌∙◌, ap}
 use mathlib.Core.Bool.{Bool, true, false, cond}
-use mathlib.Core.List.{List, []}
-use Prim.Native.Nat.{ℕ, ◌-◌, ◌≤◌, ◌<◌}
+use mathlib.Core.List.{List}
+use Prim.Native.Nat.{ℕ, ◌≤◌, ◌<◌}
 use native.Mathlib.Omega.{arith}
 use lib.Dec.{leb, eqb}
 use lib.ListN.{length, get_or, take, drop}
@@ -13,7 +13,7 @@ use Rattle.pkg_length.proofs.Answers.{refuses-not, gives_same, then-gives}
 use Rattle.header.specs.declared.Signature.{Signature}
 use Rattle.header.specs.declared.Signature.TheVariants.{Dsdt, Ssdt}
 use Rattle.header.specs.declared.Header.{Header}
-use Rattle.header.specs.Header.{header_length, sum_of, letters_of, bytes_same, signature_in, stated_length, header_of, header_in, body_of}
+use Rattle.header.specs.Header.{header_length, sum_of, letters_of, bytes_same, signature_in, stated_length, header_of, header_in}
 use Rattle.header.proofs.Parts.{same-is}
 
 module _ (letters : List ℕ) where
@@ -117,9 +117,3 @@ body-inside bytes h e =
     let start : header_length ≡ h.start = ap (λ (x : Header). x.start) g.is in
     let end : stated_length bytes ≡ h.end = ap (λ (x : Header). x.end) g.is in
     (omega (arith, g.low), omega (arith, g.high))
-
-pub body-given : (bytes : List ℕ) (h : Header) → gives h ≡ header_in bytes → take (h.end - h.start) (drop h.start bytes) ≡ body_of bytes (header_in bytes)
-body-given bytes h e = rw (← e)
-
-pub body-none : (bytes : List ℕ) {n p : ℕ} → refuses n p ≡ header_in bytes → [] ≡ body_of bytes (header_in bytes)
-body-none bytes e = rw (← e)

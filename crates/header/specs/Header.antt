@@ -1,12 +1,10 @@
 -- A whole table, as request R-1 of document 02 has it: a header of 36 bytes, then the body.
 use Rattle.std.specs.Prelude.{Bool, true, false, cond, ℕ, ◌+◌, ◌-◌, ◌%◌, List, [], ◌∷◌, ◌++◌, leb, eqb, length, get_or, take, drop}
-use Rattle.pkg_length.specs.Refusal.{Answer, gives, refuses, refused, and_then}
+use Rattle.pkg_length.specs.Refusal.{Answer, gives, refuses, and_then}
 use Rattle.pkg_length.specs.Little.{little, little_bytes}
 use Rattle.header.specs.declared.Signature.{Signature}
 use Rattle.header.specs.declared.Signature.TheVariants.{Dsdt, Ssdt}
 use Rattle.header.specs.declared.Header.{Header}
-use Rattle.header.specs.declared.HeaderAnswer.{HeaderAnswer}
-use Rattle.header.specs.declared.WriteAnswer.{WriteAnswer}
 
 -- the header's bytes
 abbrev pub header_length : ℕ
@@ -105,12 +103,3 @@ written_of room t =
 unfoldable pub written : ℕ → List ℕ → ℕ → List ℕ → List ℕ → Answer (List ℕ)
 written room letters revision rest body =
     and_then (signature_in letters) (λ s. written_of room (record { signature = s; revision = revision; rest = rest; body = body }))
-
--- what the code's answers say
-abbrev pub header_said : HeaderAnswer → Answer Header
-header_said (HeaderAnswer.Read h) = gives h
-header_said (HeaderAnswer.Refused e) = refused e
-
-abbrev pub write_said : WriteAnswer → Answer ℕ
-write_said (WriteAnswer.Length n) = gives n
-write_said (WriteAnswer.Refused e) = refused e

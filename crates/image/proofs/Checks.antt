@@ -4,19 +4,16 @@ use mathlib.Core.Bool.{Bool, true, false, cond, not, ◌&&◌, ◌||◌}
 use mathlib.Core.List.{List, [], ◌∷◌, ◌++◌}
 use Prim.Native.Nat.{ℕ, zero, suc, ◌+◌, ◌-◌, ◌*◌, ◌/◌, ◌%◌, ◌^◌, ◌<◌, ◌≤◌}
 use native.Mathlib.Omega.{arith}
-use mathlib.Core.Logic.{⊎_elim}
 use lib.Dec.{leb, ltb, eqb}
-use lib.ListN.{length, get_or}
-use borrow.Author.Tests.{le-leb, lt-leb, leb-true, lt-ltb, le-ltb, ltb-true, ltb-false, eq-eqb, ne_eqb}
+use lib.ListN.{length}
+use borrow.Author.Tests.{le-leb, lt-leb, leb-true, lt-ltb, le-ltb, ltb-true}
 use Rattle.pkg_length.specs.Refusal.{Answer, gives, refuses, and_then}
-use Rattle.pkg_length.proofs.Answers.{gives_same, then-gives, then-refuses, refuses-not, never, halves}
-use Rattle.table.specs.Limits.{Limits}
-use Rattle.table.proofs.Facts.{lt-or-le}
+use Rattle.pkg_length.proofs.Answers.{gives_same, then-gives, then-refuses, refuses-not, refuses-as, halves}
 use Rattle.table.proofs.Numbers.{number-low}
 use Rattle.image.specs.declared.test.Seen.{Seen}
 use Rattle.image.specs.Bits.{bits_in, number_at, bytes_for}
 use Rattle.image.specs.Format.{Format, level_bits, binding_bits}
-use Rattle.image.specs.Reader.{Check, check, first, fits, are_chars_ok, segment_number, segment_checks, named_checks, is_depth_ok, depth_at, type_at, chars_at, level_checks, levels_checks, seen, handle_at, binding_checks, bindings_checks, count_at, count_checks, own_checks, bound_checks, after, object_checks, end_checks, header_checks, levels_in, bindings_in, objects_in}
+use Rattle.image.specs.Reader.{Check, check, first, fits, segment_number, segment_checks, depth_at, chars_at, level_checks, levels_checks, seen, handle_at, binding_checks, bindings_checks, count_at, count_checks, own_checks, bound_checks, after, object_checks, end_checks}
 use Rattle.image.proofs.Fields.{length-bits_in}
 
 -- the first of two lists of checks
@@ -31,68 +28,23 @@ first-append [] ys = refl
 first-append (c ∷ cs) ys = one-check c.holds cs ys c.refusal c.place (first-append cs ys)
 
 -- a test's answer, and what the checks say
-pub refused-arm : {A B : Type 0} (a : Answer (Unit {0})) (v : A) (w : B) {n p : ℕ} → refuses n p ≡ and_then a (λ _. gives v) → refuses n p ≡ and_then a (λ _. gives w)
-refused-arm a v w {n} {p} e = let x : a ≡ refuses n p = then-refuses a (λ _. v) (sym e) in rw x
-
 pub refused-is : {A : Type 0} (a : Answer (Unit {0})) (v : A) {n p : ℕ} → refuses n p ≡ and_then a (λ _. gives v) → a ≡ refuses n p
 refused-is a v e = then-refuses a (λ _. v) (sym e)
 
 pub fine-arm : {A : Type 0} (a : Answer (Unit {0})) (v s : A) → gives s ≡ and_then a (λ _. gives v) → (a ≡ gives tt) × (s ≡ v)
 fine-arm a v s e = let x = then-gives a (λ _. gives v) (sym e) in (x.1, sym (gives_same x.2))
 
--- a field is there or not
-pub no-fit : {x r : Bool} → r ≡ not x → r ≡ true → x ≡ false
-no-fit {x = true} e f = never (sym e ∙ f)
-no-fit {x = false} e f = refl
+-- a field that is not there, and one that is
+pub lack : {A B : Type 0} {b : Bool} (v : A) {n p k q : ℕ} {X : Answer B} → refuses k q ≡ cond b (gives v) (refuses n p) → (b ≡ false → refuses n p ≡ X) → refuses k q ≡ X
+lack {b = true} v h f = refuses-not h
+lack {b = false} v h f = refuses-as h ∙ f refl
 
-pub yes-fit : {x r : Bool} → r ≡ not x → r ≡ false → x ≡ true
-yes-fit {x = true} e f = refl
-yes-fit {x = false} e f = never (sym f ∙ e)
+pub has : {A : Type 0} {b : Bool} {v s : A} (n p : ℕ) → gives s ≡ cond b (gives v) (refuses n p) → (b ≡ true) × (s ≡ v)
+has {b = true} n p h = (refl, gives_same h)
+has {b = false} n p h = refuses-not (sym h)
 
 pub room : (bytes : List ℕ) (p w : ℕ) → leb (p + w) (length (bits_in bytes)) ≡ true → p + w ≤ 8 * length bytes
 room bytes p w h = omega (arith, leb-true (p + w) (length (bits_in bytes)) h, length-bits_in bytes)
-
-module _ {A : Type 0} (bs : List Bool) (p lo : ℕ) (v : A) where
-  pub segment-short : leb (p + 32) (length bs) ≡ false → refuses 32 p ≡ and_then (first (segment_checks bs p lo)) (λ _. gives v)
-  unfolding first segment_checks
-  segment-short e = rw e
-
-  pub segment-chars : leb (p + 32) (length bs) ≡ true → are_chars_ok (number_at bs 32 p) ≡ false → refuses 37 p ≡ and_then (first (segment_checks bs p lo)) (λ _. gives v)
-  unfolding first segment_checks
-  segment-chars e f = rw (e, f)
-
-  pub segment-order : leb (p + 32) (length bs) ≡ true → are_chars_ok (number_at bs 32 p) ≡ true → segment_number (number_at bs 32 p) < lo → refuses 38 p ≡ and_then (first (segment_checks bs p lo)) (λ _. gives v)
-  unfolding first segment_checks
-  segment-order e f g = rw (e, f, lt-leb lo (segment_number (number_at bs 32 p)) g)
-
-  pub segment-fine : leb (p + 32) (length bs) ≡ true → are_chars_ok (number_at bs 32 p) ≡ true → lo ≤ segment_number (number_at bs 32 p) → gives v ≡ and_then (first (segment_checks bs p lo)) (λ _. gives v)
-  unfolding first segment_checks
-  segment-fine e f g = rw (e, f, le-leb lo (segment_number (number_at bs 32 p)) g)
-
-module _ (f : Format) (bs : List Bool) (p : ℕ) where
-  pub named-short : {A : Type 0} (lo : ℕ) (v : A) → leb (p + f.depth_bits + 3) (length bs) ≡ false → refuses 32 (p + f.depth_bits) ≡ and_then (first (named_checks f bs p lo)) (λ _. gives v)
-  unfolding first named_checks
-  named-short lo v e = rw e
-
-  pub named-type : {A : Type 0} (lo : ℕ) (v : A) → leb (p + f.depth_bits + 3) (length bs) ≡ true → 6 ≤ type_at f bs p → refuses 36 (p + f.depth_bits) ≡ and_then (first (named_checks f bs p lo)) (λ _. gives v)
-  unfolding first named_checks
-  named-type lo v e g = rw (e, le-ltb (type_at f bs p) 6 g)
-
-  pub named-on : (lo : ℕ) → leb (p + f.depth_bits + 3) (length bs) ≡ true → type_at f bs p < 6 → first (named_checks f bs p lo) ≡ first (segment_checks bs (p + f.depth_bits + 3) lo)
-  unfolding first named_checks
-  named-on lo e g = rw (e, lt-ltb (type_at f bs p) 6 g)
-
-  pub level-short : {A : Type 0} (before : ℕ) (low : List ℕ) (v : A) → leb (p + f.depth_bits) (length bs) ≡ false → refuses 32 p ≡ and_then (first (level_checks f bs p before low)) (λ _. gives v)
-  unfolding first level_checks
-  level-short before low v e = rw e
-
-  pub level-depth : {A : Type 0} (before : ℕ) (low : List ℕ) (v : A) → leb (p + f.depth_bits) (length bs) ≡ true → is_depth_ok f before (depth_at f bs p) ≡ false → refuses 35 p ≡ and_then (first (level_checks f bs p before low)) (λ _. gives v)
-  unfolding first level_checks
-  level-depth before low v e g = rw (e, g)
-
-  pub level-on : (before : ℕ) (low : List ℕ) → leb (p + f.depth_bits) (length bs) ≡ true → is_depth_ok f before (depth_at f bs p) ≡ true → first (level_checks f bs p before low) ≡ first (named_checks f bs p (get_or low (depth_at f bs p) 0))
-  unfolding first level_checks
-  level-on before low e g = rw (e, g)
 
 -- one level more
 module _ (f : Format) (bs : List Bool) (n p before : ℕ) (low : List ℕ) where
@@ -129,49 +81,6 @@ module _ (f : Format) (bs : List Bool) (made q lo : ℕ) where
       ≡ and_then (first (binding_checks f bs made q lo)) (λ _. first (bindings_checks f bs made n (q + binding_bits f) (segment_number (number_at bs 32 q) + 1)))
   unfolding bindings_checks
   bindings-step n = first-append (binding_checks f bs made q lo) _
-
--- a count
-module _ {A : Type 0} (f : Format) (bs : List Bool) (last : Bool) (q d rest : ℕ) (v : A) where
-  pub count-short : leb (q + 10) (length bs) ≡ false → refuses 32 q ≡ and_then (first (count_checks f bs last q d rest)) (λ _. gives v)
-  unfolding first count_checks
-  count-short e = rw e
-
-  module _ (e : leb (q + 10) (length bs) ≡ true) where
-    pub count-deep : (not (eqb d f.deepest) || eqb (count_at bs q) 0) ≡ false → refuses 39 q ≡ and_then (first (count_checks f bs last q d rest)) (λ _. gives v)
-    unfolding first count_checks
-    count-deep g = rw (e, g)
-
-    module _ (g : (not (eqb d f.deepest) || eqb (count_at bs q) 0) ≡ true) where
-      pub count-over : rest < count_at bs q → refuses 40 q ≡ and_then (first (count_checks f bs last q d rest)) (λ _. gives v)
-      unfolding first count_checks
-      count-over h = rw (e, g, lt-leb (count_at bs q) rest h)
-
-      pub count_less : count_at bs q ≤ rest → (not last || leb rest (count_at bs q)) ≡ false → refuses 41 q ≡ and_then (first (count_checks f bs last q d rest)) (λ _. gives v)
-      unfolding first count_checks
-      count_less h k = rw (e, g, le-leb (count_at bs q) rest h, k)
-
-      pub count-fine : count_at bs q ≤ rest → (not last || leb rest (count_at bs q)) ≡ true → gives v ≡ and_then (first (count_checks f bs last q d rest)) (λ _. gives v)
-      unfolding first count_checks
-      count-fine h k = rw (e, g, le-leb (count_at bs q) rest h, k)
-
--- two tests at once
-pub both_hold : (x y : Bool) → (x && not y) ≡ true → (not x || y) ≡ false
-both_hold true true e = never e
-both_hold true false e = refl
-both_hold false y e = never e
-
-pub one-fails : (x y : Bool) → (x && not y) ≡ false → (not x || y) ≡ true
-one-fails true true e = refl
-one-fails true false e = never (sym e)
-one-fails false y e = refl
-
-pub short-last : (x : Bool) (n rest : ℕ) → (x && ltb n rest) ≡ true → (not x || leb rest n) ≡ false
-short-last true n rest e = lt-leb rest n (ltb-true n rest e)
-short-last false n rest e = never e
-
-pub full-last : (x : Bool) (n rest : ℕ) → (x && ltb n rest) ≡ false → (not x || leb rest n) ≡ true
-full-last true n rest e = le-leb rest n (ltb-false n rest e)
-full-last false n rest e = refl
 
 third : (w x : Bool) (n rest : ℕ) (z : Bool) (q : ℕ)
     → ◌≡◌ {A = Answer (Unit {0})} (cond w (cond x (cond (leb n rest) (cond z (gives tt) (refuses 41 q)) (refuses 40 q)) (refuses 39 q)) (refuses 32 q)) (gives tt) → n ≤ rest
@@ -238,58 +147,6 @@ module _ (bs : List Bool) (p : ℕ) where
   unfolding first end_checks
   end-fine e h = rw (e, le-leb (length bs) (8 * bytes_for p) h)
 
--- the last byte's end, and the byte after it
-pub short-is : (n p : ℕ) → ltb n ((p + 7) / 8) ≡ not (leb p (8 * n))
-short-is n p = ⊎_elim (λ h. rw (lt-ltb n ((p + 7) / 8) (omega arith), lt-leb p (8 * n) h)) (λ h. rw (le-ltb n ((p + 7) / 8) (omega arith), le-leb p (8 * n) h)) (lt-or-le (8 * n) p)
-
--- the header
-module _ {A : Type 0} (f : Format) (m : Limits) (bs : List Bool) (v : A) where
-  abbrev Says : Answer A → Type 0
-  Says r = r ≡ and_then (first (header_checks f m bs)) (λ _. gives v)
-
-  pub header-short : leb 4 (length bs) ≡ false → Says (refuses 32 0)
-  unfolding first header_checks
-  header-short e = rw e
-
-  module _ (a : leb 4 (length bs) ≡ true) where
-    pub header-edition : eqb (number_at bs 4 0) f.edition ≡ false → Says (refuses 33 0)
-    unfolding first header_checks
-    header-edition e = rw (a, e)
-
-    module _ (b : eqb (number_at bs 4 0) f.edition ≡ true) where
-      pub levels-missing : leb 12 (length bs) ≡ false → Says (refuses 32 4)
-      unfolding first header_checks
-      levels-missing e = rw (a, b, e)
-
-      module _ (c : leb 12 (length bs) ≡ true) where
-        pub levels-many : m.levels ≤ levels_in bs → Says (refuses 34 4)
-        unfolding first header_checks
-        levels-many e = rw (a, b, c, le-ltb (levels_in bs) m.levels e)
-
-        module _ (d : levels_in bs < m.levels) where
-          pub bindings-missing : leb 22 (length bs) ≡ false → Says (refuses 32 12)
-          unfolding first header_checks
-          bindings-missing e = rw (a, b, c, lt-ltb (levels_in bs) m.levels d, e)
-
-          module _ (g : leb 22 (length bs) ≡ true) where
-            pub bindings-many : m.bindings < bindings_in bs → Says (refuses 34 12)
-            unfolding first header_checks
-            bindings-many e = rw (a, b, c, lt-ltb (levels_in bs) m.levels d, g, lt-leb (bindings_in bs) m.bindings e)
-
-            module _ (h : bindings_in bs ≤ m.bindings) where
-              pub objects-missing : leb 32 (length bs) ≡ false → Says (refuses 32 22)
-              unfolding first header_checks
-              objects-missing e = rw (a, b, c, lt-ltb (levels_in bs) m.levels d, g, le-leb (bindings_in bs) m.bindings h, e)
-
-              module _ (k : leb 32 (length bs) ≡ true) where
-                pub objects-many : m.objects < objects_in bs → Says (refuses 34 22)
-                unfolding first header_checks
-                objects-many e = rw (a, b, c, lt-ltb (levels_in bs) m.levels d, g, le-leb (bindings_in bs) m.bindings h, k, lt-leb (objects_in bs) m.objects e)
-
-                pub header-fine : objects_in bs ≤ m.objects → Says (gives v)
-                unfolding first header_checks
-                header-fine e = rw (a, b, c, lt-ltb (levels_in bs) m.levels d, g, le-leb (bindings_in bs) m.bindings h, k, le-leb (objects_in bs) m.objects e)
-
 -- Checks that all hold.
 
 pub head-holds : (c : Check) (cs : List Check) → first (c ∷ cs) ≡ gives tt → (c.holds ≡ true) × (first cs ≡ gives tt)
@@ -346,20 +203,14 @@ module _ (f : Format) (bs : List Bool) (made n k p q d rest : ℕ) where
       ≡ and_then (first (own_checks f bs made false q d rest)) (λ _. first (bound_checks f bs made (n - (k + 1)) (p + level_bits f) (after f bs q) (depth_at f bs p) (rest - count_at bs q)))
   bound-on h = ap (λ (j : ℕ). first (bound_checks f bs made j p q d rest)) (one_left n k h) ∙ bound-step f bs made (n - (k + 1)) p q d rest
 
-  pub bound-next : k < n → first (own_checks f bs made (eqb k n) q d rest) ≡ gives tt → (c : ℕ) → c ≡ count_at bs q → (e : ℕ) → e ≡ depth_at f bs p
-      → (p' q' : ℕ) → p' ≡ p + level_bits f → q' ≡ q + 10 + c * binding_bits f
-      → first (bound_checks f bs made (n - (k + 1)) p' q' e (rest - c)) ≡ first (bound_checks f bs made (n - k) p q d rest)
-  bound-next h o c g e i p' q' u v = let x = rw (ne_eqb k n (λ z. omega arith)) at o in sym (bound-on h ∙ rw (x, u, v, g, i))
+  module _ (h : k < n) where
+    pub bound-next : first (own_checks f bs made false q d rest) ≡ gives tt → (c : ℕ) → c ≡ count_at bs q → (e : ℕ) → e ≡ depth_at f bs p
+        → (p' q' : ℕ) → p' ≡ p + level_bits f → q' ≡ q + 10 + c * binding_bits f
+        → first (bound_checks f bs made (n - (k + 1)) p' q' e (rest - c)) ≡ first (bound_checks f bs made (n - k) p q d rest)
+    bound-next o c g e i p' q' u v = sym (bound-on h ∙ rw (o, u, v, g, i))
 
-  -- whichever it is, a refusal of the level's own is one of all
-  pub bound-refused : k ≤ n → {m j : ℕ} → first (own_checks f bs made (eqb k n) q d rest) ≡ refuses m j → refuses m j ≡ first (bound_checks f bs made (n - k) p q d rest)
-  bound-refused h {m} {j} e = ⊎_elim (λ l. less l) (λ l. last (omega arith)) (lt-or-le k n)
-    where
-      less : k < n → refuses m j ≡ first (bound_checks f bs made (n - k) p q d rest)
-      less l = let x = rw (ne_eqb k n (λ z. omega arith)) at e in sym (bound-on l ∙ rw x)
-
-      last : k ≡ n → refuses m j ≡ first (bound_checks f bs made (n - k) p q d rest)
-      last l = let x = rw (eq-eqb k n l) at e in sym (bound-ended l ∙ x)
+    pub bound-refused : {m j : ℕ} → first (own_checks f bs made false q d rest) ≡ refuses m j → refuses m j ≡ first (bound_checks f bs made (n - k) p q d rest)
+    bound-refused e = sym (bound-on h ∙ rw e)
 
 -- nothing to test
 pub levels-none : (f : Format) (bs : List Bool) (p before : ℕ) (low : List ℕ) → first (levels_checks f bs zero p before low) ≡ gives tt

@@ -13,6 +13,7 @@ use Rattle.table.specs.Layout.{pad, encode}
 use Rattle.table.specs.Memory.{size, left}
 use Rattle.table.proofs.Whole.{length-pad}
 use Rattle.image.specs.Bits.{bits_in}
+use Rattle.image.specs.declared.Counts.{Counts}
 use Rattle.image.specs.Format.{Format, first_edition, header_bits, bindings_place, objects_place}
 use Rattle.image.specs.Reader.{first, image_checks, root_seen, tree_in, image_in, levels_in, bindings_in, objects_in, bound_at}
 use Rattle.image.specs.Calls.{read_call, counts_in}
@@ -103,16 +104,16 @@ pub record Grants (bytes : List ℕ) (n total made : ℕ) : Type 0 where
   pub counted : length (bound_at first_edition (bits_in bytes) (suc n) (bindings_place first_edition n)) ≡ total
   pub there : objects_place first_edition n total + made * 64 ≤ 8 * length bytes
 
-same-grants : (bytes : List ℕ) {n n' t t' m m' : ℕ} → n ≡ n' → t ≡ t' → m ≡ m' → Grants bytes n' t' m' → Grants bytes n t m
-same-grants bytes e f g x = rw (e, f, g) x
+same-grants : (bytes : List ℕ) {c d : Counts} → c ≡ d → Grants bytes d.levels d.bindings d.objects → Grants bytes c.levels c.bindings c.objects
+same-grants bytes e x = rw e x
 
-pub grants : (bytes : List ℕ) (n total made : ℕ) → Accepted bytes n total made → Grants bytes n total made
-grants bytes n total made a =
+pub grants : (bytes : List ℕ) (c : Counts) → Accepted bytes c → Grants bytes c.levels c.bindings c.objects
+grants bytes c a =
     let h = head first_edition limits bytes a.checked in
     let l = length-bits_in bytes in
     let z = length-is first_edition limits bytes a.checked in
     let b = bound-ok first_edition limits bytes a.checked in
-    same-grants bytes a.levels a.bindings a.objects
+    same-grants bytes a.counts
     (record {
       levels = h.levels;
       bindings = h.bindings;

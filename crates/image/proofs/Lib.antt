@@ -1,5 +1,6 @@
 pub mod Fields
 pub mod Ink
+pub mod Characters
 pub mod Checks
 pub mod Rooms
 pub mod Contents
@@ -11,3 +12,4 @@ pub mod Filling
 pub mod Saving
 pub mod Reading
 pub mod RoundTrip
+pub mod Writing

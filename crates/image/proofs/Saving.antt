@@ -1,29 +1,28 @@
 -- A well-formed table's parts, as the writer takes them: its levels, bindings and objects are the tree's, so that their fields are its image.
-use mathlib.Core.Path.{◌≡◌, refl, ap, sym, subst, ◌∙◌}
+use mathlib.Core.Path.{◌≡◌, refl, ap, sym, ◌∙◌}
 use mathlib.Core.Bool.{Bool, true, false}
-use mathlib.Core.List.{List, [], ◌∷◌, ◌++◌, map, map-append}
+use mathlib.Core.List.{List, [], ◌∷◌, ◌++◌, map, map-append, append-nil}
 use Prim.Native.Nat.{ℕ, zero, suc, ◌-◌, ◌^◌, ◌<◌, ◌≤◌}
 use native.Mathlib.Omega.{arith}
-use lib.ListN.{length, take, drop, get_or, replicate, length-map, get_or-append}
+use lib.ListN.{length, take, drop, get_or, replicate, length-map}
 use lib.Seq.{take_at, drop-drop, get_or-drop}
 use borrow.Author.Tests.{le-leb, lt-leb}
 use Rattle.pkg_length.specs.Refusal.{gives, refuses}
-use Rattle.table.specs.Limits.{Limits, limits}
+use Rattle.table.specs.Limits.{limits}
 use Rattle.table.specs.Tree.{Binding, Forest, none, level, Tree, bound, is_live}
 use Rattle.table.specs.Layout.{pack, flat, pad, bind_word, binding_of}
 use Rattle.table.specs.Memory.{is_well_formed, means, decode}
-use Rattle.table.specs.Inside.{counts}
 use Rattle.table.proofs.Shape.{Valid, binding-tests}
 use Rattle.table.proofs.Numbers.{segment-range}
 use Rattle.table.specs.Valid.{rising, some}
 use Rattle.pkg_length.proofs.Answers.{never}
-use Rattle.table.proofs.Whole.{Whole, valid-whole, small-handles, length-pad}
+use Rattle.table.proofs.Whole.{Whole, valid-whole, small-handles}
 use Rattle.table.proofs.Memory.{formed-whole, level_part, bind_part, object_part, first-is, second_is, third-is, bound-back, encode-length}
 use Rattle.image.specs.Bits.{spelled, packed, bytes_for}
 use Rattle.image.specs.Format.{first_edition, image_length}
 use Rattle.image.specs.Image.{image_fields, image}
 use Rattle.image.specs.Calls.{write_call}
-use Rattle.image.specs.Inside.{ink, used_of, table_fields, Filled}
+use Rattle.image.specs.Inside.{ink, used_of, table_fields, Filled, IsInUse}
 use Rattle.pkg_length.specs.Wrote.{Wrote, wrote}
 use Rattle.image.proofs.Written.{used-pad, ink-all}
 use Rattle.image.proofs.Ink.{length-packed}
@@ -111,59 +110,56 @@ module _ (ws : List ℕ) (ok : is_well_formed limits ws ≡ true) where
   over : Over (2 ^ 45) (flat 1 t.levels)
   over = flat-over limits.components (is_live t) 1 0 t.levels whole.forest
 
-  pub used-levels : used_of (take 128 ws) ≡ length (flat 1 t.levels)
-  used-levels = ap used_of levels-part ∙ used_over (2 ^ 45) 128 (flat 1 t.levels) (omega arith) over
-
-  pub used-bindings : used_of (take 512 (drop 128 ws)) ≡ length (bound t.levels)
-  used-bindings =
-      ap used_of bindings-part ∙ used_over 1 512 (map bind_word (bound t.levels)) (omega arith) (bound-over limits.components (is_live t) 1 0 t.levels whole.forest)
-      ∙ length-map (bound t.levels) bind_word
-
   take-pad : (a : ℕ) (xs : List ℕ) → take (length xs) (pad a xs) ≡ xs
   take-pad a xs = unfold pad in take_at xs (replicate (a - length xs) 0) (length xs) refl
 
-  pub levels-are : take (length (flat 1 t.levels)) (take 128 ws) ≡ flat 1 t.levels
-  levels-are = ap (take (length (flat 1 t.levels))) levels-part ∙ take-pad 128 (flat 1 t.levels)
+  -- the words before the first spare one are the tree's
+  pub levels-used : take (used_of (take 128 ws)) (take 128 ws) ≡ flat 1 t.levels
+  levels-used =
+      ap (λ (n : ℕ). take n (take 128 ws)) (ap used_of levels-part ∙ used_over (2 ^ 45) 128 (flat 1 t.levels) (omega arith) over)
+      ∙ ap (take (length (flat 1 t.levels))) levels-part ∙ take-pad 128 (flat 1 t.levels)
 
-  pub values-are : take (length t.objects) (drop 641 ws) ≡ t.objects
-  values-are = ap (take (length t.objects)) values-part ∙ take-pad 512 t.objects
+  abbrev words : List ℕ
+  words = map bind_word (bound t.levels)
 
-  pub filled : Filled (take 128 ws) (length (flat 1 t.levels)) (take 512 (drop 128 ws)) (length (bound t.levels)) (drop 641 ws) (length t.objects)
-  filled =
-      record {
-        ranked = λ k h. rw levels-part (subst (λ (x : ℕ). 2 ^ 45 ≤ x) (sym (padded 128 (flat 1 t.levels) k h)) (over-at (2 ^ 45) (flat 1 t.levels) k over h));
-        rooted = some_words limits t whole;
-        levels = rw (levels-part, length-pad 128 (flat 1 t.levels) whole.levels) whole.levels;
+  pub bindings-used : take (used_of (take 512 (drop 128 ws))) (take 512 (drop 128 ws)) ≡ words
+  bindings-used =
+      ap (λ (n : ℕ). take n (take 512 (drop 128 ws)))
+      (ap used_of bindings-part ∙ used_over 1 512 words (omega arith) (bound-over limits.components (is_live t) 1 0 t.levels whole.forest))
+      ∙ ap (take (length words)) bindings-part ∙ take-pad 512 words
+
+  pub objects-used : take (get_or ws 640 0) (drop 641 ws) ≡ t.objects
+  objects-used = ap (λ (n : ℕ). take n (drop 641 ws)) made ∙ ap (take (length t.objects)) values-part ∙ take-pad 512 t.objects
+
+  pub few-objects : get_or ws 640 0 ≤ 512
+  few-objects = rw made whole.objects
+
+  -- what the words of the tree are
+  pub filled : {ls bs vs : List ℕ} → IsInUse t ls bs vs → Filled ls bs vs
+  filled u =
+      rw (u.levels, u.bindings, u.objects)
+      (record {
+        ranked = λ k h. over-at (2 ^ 45) (flat 1 t.levels) k over h;
+        rooted = root-words t.levels whole.rooted;
         few = whole.levels;
-        counted = ap counts levels-are ∙ counts-bound limits.components (is_live t) 1 0 t.levels whole.forest;
-        bindings = rw (bindings-part, length-pad 512 (map bind_word (bound t.levels)) bound-short) whole.bindings;
-        bounded = rw (bindings-part, length-pad 512 (map bind_word (bound t.levels)) bound-short) (omega arith);
-        objects = rw (values-part, length-pad 512 t.objects whole.objects) whole.objects;
+        counted = counts-bound limits.components (is_live t) 1 0 t.levels whole.forest ∙ sym (length-map (bound t.levels) bind_word);
+        bounded = rw (length-map (bound t.levels) bind_word) whole.bindings;
         made = whole.objects;
-      }
-    where
-      padded : (a : ℕ) (xs : List ℕ) (k : ℕ) → k < length xs → get_or (pad a xs) k 0 ≡ get_or xs k 0
-      padded a xs k h = unfold pad in get_or-append xs (replicate (a - length xs) 0) 0 k h
-
-      bound-short : length (map bind_word (bound t.levels)) ≤ 512
-      bound-short = rw (length-map (bound t.levels) bind_word) whole.bindings
-
-      some_words : (m : Limits) (t : Tree) → Whole m t → 1 ≤ length (flat 1 t.levels)
-      some_words m t w = root-words t.levels w.rooted
+      })
 
   -- the fields written are the image's
-  pub saved : spelled (table_fields first_edition (take (length (flat 1 t.levels)) (take 128 ws)) (length (bound t.levels)) (map binding_of (take 512 (drop 128 ws))) (take (length t.objects) (drop 641 ws))) ≡ spelled (image_fields first_edition t)
-  saved =
-      rw (levels-are, values-are, bindings-part)
-      (ap (λ (l : List Binding). spelled (table_fields first_edition (flat 1 t.levels) (length (bound t.levels)) l t.objects)) bindings-are
-      ∙ ap spelled (fields-are first_edition limits t (map binding_of (replicate (512 - length (map bind_word (bound t.levels))) 0)) whole))
-    where
-      bindings-are : map binding_of (pad 512 (map bind_word (bound t.levels))) ≡ bound t.levels ++ map binding_of (replicate (512 - length (map bind_word (bound t.levels))) 0)
-      bindings-are = unfold pad in (map-append binding_of (map bind_word (bound t.levels)) (replicate (512 - length (map bind_word (bound t.levels))) 0) ∙ ap (λ (l : List Binding). l ++ map binding_of (replicate (512 - length (map bind_word (bound t.levels))) 0)) (bound-back limits.components (is_live t) 1 0 t.levels (small-handles limits t whole hm) whole.forest))
+  pub saved : {ls bs vs : List ℕ} → IsInUse t ls bs vs → spelled (table_fields first_edition ls (length bs) (map binding_of bs) vs) ≡ spelled (image_fields first_edition t)
+  saved u =
+      rw (u.levels, u.bindings, u.objects, length-map (bound t.levels) bind_word, bound-back limits.components (is_live t) 1 0 t.levels (small-handles limits t whole hm) whole.forest)
+      (ap (λ (l : List Binding). spelled (table_fields first_edition (flat 1 t.levels) (length (bound t.levels)) l t.objects)) (sym (append-nil (bound t.levels)))
+      ∙ ap spelled (fields-are first_edition limits t [] whole))
 
   pub long : length (image first_edition t) ≡ image_length first_edition (length (flat 1 t.levels) - 1) (length (bound t.levels)) (length t.objects)
   unfolding image
   long = length-packed (spelled (image_fields first_edition t)) ∙ ap bytes_for (bits_are first_edition limits t whole)
+
+  pub image-long : {ls bs vs : List ℕ} → IsInUse t ls bs vs → image_length first_edition (length ls - 1) (length bs) (length vs) ≡ length (image first_edition t)
+  image-long u = rw (u.levels, u.bindings, u.objects, length-map (bound t.levels) bind_word) (sym long)
 
   meant : means limits ws ≡ gives t
   unfolding means
@@ -180,10 +176,6 @@ module _ (ws : List ℕ) (ok : is_well_formed limits ws ≡ true) where
 pub write-wrong : (ws : List ℕ) (room : ℕ) → is_well_formed limits ws ≡ false → write_call first_edition limits room ws ≡ refuses 24 0
 unfolding write_call means
 write-wrong ws room e = rw e
-
--- the parts under other names
-pub filled-as : (ls bs vs : List ℕ) {n n' b b' o o' : ℕ} → n ≡ n' → b ≡ b' → o ≡ o' → Filled ls n' bs b' vs o' → Filled ls n bs b vs o
-filled-as ls bs vs e f g x = rw (e, f, g) x
 
 -- what stands in the output
 pub wrote-all : (out o' : List ℕ) (X : List Bool) (r : ℕ) → o' ≡ ink out 0 X → r ≡ length (packed X) → ◌≡◌ {A = Wrote} (record { out = o'; said = gives r }) (wrote out (gives (packed X)))

@@ -3,17 +3,18 @@ use mathlib.Core.Path.{◌≡◌, refl, ap, ap₂, sym, subst, ◌∙◌}
 use mathlib.Core.Bool.{Bool, true}
 use lib.Dec.{eqb}
 use mathlib.Core.List.{List, [], ◌∷◌, ◌++◌, append_assoc, append-nil, map, map-append}
-use Prim.Native.Nat.{ℕ, suc, ◌+◌, ◌-◌, ◌*◌, ◌^◌, ◌<◌, ◌≤◌}
+use Prim.Native.Nat.{ℕ, zero, suc, ◌+◌, ◌-◌, ◌*◌, ◌<◌, ◌≤◌}
 use native.Mathlib.Omega.{arith}
 use native.Mathlib.Numerals.{add-one}
-use lib.ListN.{length, take, drop, set, length-append, length-map, length-drop, take-append-drop}
+use lib.ListN.{length, get_or, take, drop, set, length-append, length-map, length-drop, take-append-drop}
 use lib.Seq.{take-suc-set, drop-set-lt, drop-drop, take_at, drop_at, length-take-le}
 use borrow.Author.Tests.{leb-true, ltb-true}
+use borrow.Rule.Slice.PartMut.{put_mid}
 use Rattle.pkg_length.specs.Refusal.{Answer, gives, refuses, and_then}
 use Rattle.table.specs.Limits.{Limits}
 use Rattle.table.specs.Layout.{pack, bind_word}
 use Rattle.image.specs.Bits.{number_at}
-use Rattle.image.specs.Format.{Format, first_edition, header_bits, level_bits, binding_bits, bindings_place, objects_place, image_bits}
+use Rattle.image.specs.Format.{Format, first_edition, header_bits, level_bits, bindings_place, objects_place, image_bits}
 use Rattle.image.specs.Reader.{first, header_checks, levels_checks, bound_checks, object_checks, end_checks, rest_checks, body_checks, image_checks, root_seen, levels_in, bindings_in, objects_in, depth_at, type_at, chars_at, segment_number, handle_at, count_at, after, word_of_level, level_words, bindings_at, bound_at, objects_at, all_words}
 use Rattle.image.specs.Inside.{Walk}
 use Rattle.image.proofs.Checks.{first-append, head-holds, one_left, minus-none}
@@ -36,16 +37,51 @@ module _ (ws vs : List ℕ) (k w : ℕ) (h : k < length ws) where
 pub finished : (ws vs T : List ℕ) (k n : ℕ) → k ≡ n → take k ws ++ [] ≡ T → drop k ws ≡ drop k vs → ws ≡ T ++ drop n vs
 finished ws vs T k n h e d = sym (take-append-drop k ws) ∙ ap₂ {C = List ℕ} ◌++◌ (sym (append-nil (take k ws)) ∙ e) (d ∙ ap (λ (i : ℕ). drop i vs) h)
 
--- Objects, bindings, levels: one more of them.
+-- Words of things that stand one behind the other, each so many bits wide.
 
-pub objects-more : (bs : List Bool) (n k p p' v : ℕ) → k < n → v ≡ number_at bs 64 p → p' ≡ p + 64 → v ∷ objects_at bs (n - (k + 1)) p' ≡ objects_at bs (n - k) p
-unfolding objects_at
-objects-more bs n k p p' v h e d = rw (one_left n k h, e, d)
+unfoldable pub steps : (ℕ → ℕ) → ℕ → ℕ → ℕ → List ℕ
+steps g width zero q = []
+steps g width (suc n) q = g q ∷ steps g width n (q + width)
 
-pub bindings-more : (f : Format) (bs : List Bool) (n k q q' w : ℕ) → k < n → w ≡ segment_number (number_at bs 32 q) * 2 ^ 32 + handle_at f bs q → q' ≡ q + binding_bits f
-    → w ∷ map bind_word (bindings_at f bs (n - (k + 1)) q') ≡ map bind_word (bindings_at f bs (n - k) q)
-unfolding bindings_at
-bindings-more f bs n k q q' w h e d = rw (one_left n k h, e, d)
+pub steps-are : (g : ℕ → ℕ) (width : ℕ) (ws : List ℕ) (n q : ℕ) → length ws ≡ n → ((k : ℕ) → k < n → get_or ws k 0 ≡ g (q + k * width)) → ws ≡ steps g width n q
+unfolding steps
+steps-are g width [] zero q l h = refl
+steps-are g width [] (suc n) q l h = absurd (omega arith)
+steps-are g width (w ∷ ws) zero q l h = absurd (omega arith)
+steps-are g width (w ∷ ws) (suc n) q l h =
+    ap₂ {C = List ℕ} ◌∷◌ (h 0 (omega arith) ∙ ap g (here q width)) (steps-are g width ws n (q + width) (omega arith) (λ k j. h (suc k) (omega arith) ∙ ap g (next q width k)))
+  where
+    here : (q width : ℕ) → q + 0 * width ≡ q
+    here q width = omega arith
+
+    next : (q width k : ℕ) → q + suc k * width ≡ q + width + k * width
+    next q width k = omega arith
+
+pub steps-objects : (bs : List Bool) (n p : ℕ) → steps (number_at bs 64) 64 n p ≡ objects_at bs n p
+unfolding steps objects_at
+steps-objects bs zero p = refl
+steps-objects bs (suc n) p = rw (steps-objects bs n (p + 64))
+
+pub steps-bindings : (bs : List Bool) (n q : ℕ) → steps (λ p. bind_word (record { segment = segment_number (number_at bs 32 p); handle = handle_at first_edition bs p })) 42 n q ≡ map bind_word (bindings_at first_edition bs n q)
+unfolding steps bindings_at
+steps-bindings bs zero q = refl
+steps-bindings bs (suc n) q = rw (steps-bindings bs n (q + 42))
+
+pub part-long : (ws : List ℕ) (m c : ℕ) → m + c ≤ length ws → length (take (m + c - m) (drop m ws)) ≡ c
+part-long ws m c h =
+    let e : m + c - m ≡ c = omega arith in
+    length-take-le (m + c - m) (drop m ws) (rw (length-drop m ws) (omega arith)) ∙ e
+
+-- a part of words, behind the first m
+pub part-put : (ws part A : List ℕ) (m c : ℕ) → part ≡ A → put_mid m (m + c - m) ws part ≡ take m ws ++ (A ++ drop (m + c) ws)
+part-put ws part A m c e =
+    ap (λ (l : List ℕ). put_mid m (m + c - m) ws l) e
+    ∙ ap (λ (l : List ℕ). take m ws ++ (A ++ l)) (drop-drop (m + c - m) m ws ∙ ap (λ (j : ℕ). drop j ws) (both m c))
+  where
+    both : (m c : ℕ) → m + (m + c - m) ≡ m + c
+    both m c = omega arith
+
+-- Levels: one more of them.
 
 pub levels-more : (f : Format) (bs : List Bool) (n k p p' q q' w : ℕ) → k < n → w ≡ pack (suc (depth_at f bs p)) (type_at f bs p) (count_at bs q) (segment_number (chars_at f bs p))
     → p' ≡ p + level_bits f → q' ≡ after f bs q → w ∷ level_words f bs (n - (k + 1)) p' q' ≡ level_words f bs (n - k) p q
@@ -138,16 +174,13 @@ module _ (f : Format) (m : Limits) (bs : List Bool) where
       record { edition = b.0; levels = ltb-true _ _ d.0; bindings = leb-true _ _ g.0; objects = leb-true _ _ j.0; room = leb-true _ _ i.0 }
 
 -- The root's word, before the others.
-pub root-first : (bs : List Bool) (n : ℕ) (ws : List ℕ) (own at : ℕ) → 0 < length ws → own ≡ count_at bs (bindings_place first_edition n) → at ≡ bindings_place first_edition n + 10 + own * 42
-    → take (0 + 1) (set ws 0 (2 ^ 45 + own * 2 ^ 32)) ++ level_words first_edition bs (n - 0) (32 + 0 * 41) at ≡ all_words first_edition bs n
+pub root-first : (bs : List Bool) (n : ℕ) (ws : List ℕ) (own w at : ℕ) → 0 < length ws → w ≡ pack 1 0 own 0 → own ≡ count_at bs (bindings_place first_edition n) → at ≡ bindings_place first_edition n + 10 + own * 42
+    → take (0 + 1) (set ws 0 w) ++ level_words first_edition bs (n - 0) (32 + 0 * 41) at ≡ all_words first_edition bs n
 unfolding all_words
-root-first bs n [] own at h e d = absurd (omega arith)
-root-first bs n (w ∷ ws) own at h e d =
-    ap₂ {C = List ℕ} ◌∷◌ (unfold pack in word own ∙ ap (λ (c : ℕ). pack 1 0 c 0) e)
+root-first bs n [] own v at h f e d = absurd (omega arith)
+root-first bs n (w ∷ ws) own v at h f e d =
+    ap₂ {C = List ℕ} ◌∷◌ (f ∙ ap (λ (c : ℕ). pack 1 0 c 0) e)
     (rw (d, e) (ap (λ (j : ℕ). level_words first_edition bs j 32 (after first_edition bs (bindings_place first_edition n))) (minus-none n)))
-  where
-    word : (own : ℕ) → 2 ^ 45 + own * 2 ^ 32 ≡ 1 * 2 ^ 45 + 0 * 2 ^ 42 + own * 2 ^ 32 + 0
-    word own = omega arith
 
 pub after_is : (bs : List Bool) (q c : ℕ) → c ≡ count_at bs q → q + 10 + c * 42 ≡ after first_edition bs q
 after_is bs q c e = rw e

@@ -1,20 +1,20 @@
 -- What is written: the fields of the table's words are those of its tree, and bits put behind bits are put there at once.
 use mathlib.Core.Path.{◌≡◌, refl, ap, ap₂, sym, ◌∙◌}
 use mathlib.Core.Bool.{Bool}
-use mathlib.Core.List.{List, [], ◌∷◌, ◌++◌, append_assoc, append-nil, map, map-append}
+use mathlib.Core.List.{List, [], ◌∷◌, ◌++◌, append_assoc, append-nil, map}
 use Prim.Native.Nat.{ℕ, zero, suc, ◌+◌, ◌-◌, ◌*◌, ◌^◌, ◌<◌, ◌≤◌}
 use native.Mathlib.Omega.{arith}
 use native.Mathlib.Nat.{suc-mul, add-mul}
 use native.Mathlib.Numerals.{add-one}
-use lib.ListN.{length, take, drop, get_or, replicate, length-append, length-drop, length-map}
-use lib.Seq.{take-suc, take-append_seam, drop-append_seam, drop-drop, length-take-le, take-add, drop-append-le}
+use lib.ListN.{length, take, drop, get_or, replicate, length-append, length-drop}
+use lib.Seq.{take-suc, take_all, take-append_seam, drop-append_seam, drop-drop, length-take-le, take-add}
 use borrow.Author.Tests.{ne_eqb}
 use Rattle.table.specs.Tree.{Binding, Forest, none, level, bound}
 use Rattle.table.specs.Layout.{pack, count_of, binding_of, flat}
 use Rattle.table.specs.Inside.{counts}
 use Rattle.table.proofs.Words.{rank-pack, type-pack, count-pack, seg-pack}
 use Rattle.table.proofs.Shape.{Valid}
-use Rattle.image.specs.Bits.{Field, field, spelled, bits, bits_in, bytes_for, packed}
+use Rattle.image.specs.Bits.{Field, field, spelled, bits, bytes_for, packed}
 use Rattle.image.specs.Format.{Format, level_bits, binding_bits}
 use Rattle.image.specs.Image.{bytes_of_segment, level_fields, binding_fields, bound_fields, object_fields}
 use Rattle.image.specs.Inside.{ink, used_of, fields_of_word, words_fields, counted_fields}
@@ -36,11 +36,6 @@ module _ (out : List ℕ) (p : ℕ) (F : List Bool) (o₁ : List ℕ) (e : o₁ 
 
   pub ink-clean : (q : ℕ) → q ≡ p + length F → ink o₁ q [] ≡ o₁
   ink-clean q h = ink-next q [] (ink o₁ q []) refl h ∙ ap (ink out p) (append-nil F) ∙ sym e
-
--- nothing before the first bit
-pub ink-start : (out : List ℕ) → ink out 0 [] ≡ out
-unfolding ink packed
-ink-start out = unfold Rattle.image.specs.Bits.bytes_of in refl
 
 pub ink-all : (out : List ℕ) (bs : List Bool) → ink out 0 bs ≡ packed bs ++ drop (bytes_for (length bs)) out
 unfolding ink
@@ -103,11 +98,6 @@ pub length-objects : (vs : List ℕ) → length (spelled (object_fields vs)) ≡
 unfolding object_fields spelled
 length-objects [] = refl
 length-objects (v ∷ vs) = rw (length-append (bits 64 v) (spelled (object_fields vs)), length-bits 64 v, length-objects vs) (omega arith)
-
-pub objects-append : (xs ys : List ℕ) → object_fields (xs ++ ys) ≡ object_fields xs ++ object_fields ys
-unfolding object_fields
-objects-append [] ys = refl
-objects-append (v ∷ xs) ys = rw (objects-append xs ys)
 
 -- one level more
 pub counts-append : (xs ys : List ℕ) → counts (xs ++ ys) ≡ counts xs + counts ys
@@ -216,40 +206,86 @@ more-field out o o' p q w v fs e room h d =
     ink-next out p (spelled fs) o e (rw (length-spelled fs) room) q (bits w v) o' d (rw (length-spelled fs) h)
     ∙ ap (ink out p) (sym (spelled-append fs (field w v ∷ []) ∙ ap (λ (l : List Bool). spelled fs ++ l) (one-spelled w v)))
 
--- The turns of the writer's loops.
+-- Rows: bits of each word, one word behind the other.
+
+unfoldable pub row : (ℕ → List Bool) → List ℕ → List Bool
+row g [] = []
+row g (w ∷ ws) = g w ++ row g ws
+
+pub words-row : (f : Format) (ws : List ℕ) → row (λ w. spelled (fields_of_word f w)) ws ≡ spelled (words_fields f ws)
+unfolding row words_fields
+words-row f [] = unfold spelled in refl
+words-row f (w ∷ ws) = rw (words-row f ws) (sym (spelled-append (fields_of_word f w) (words_fields f ws)))
+
+pub bindings-row : (f : Format) (ws : List ℕ) → row (λ w. spelled (binding_fields f (binding_of w ∷ []))) ws ≡ spelled (binding_fields f (map binding_of ws))
+unfolding row
+bindings-row f [] = unfold spelled binding_fields in refl
+bindings-row f (w ∷ ws) =
+    rw (bindings-row f ws) (sym (spelled-append (binding_fields f (binding_of w ∷ [])) (binding_fields f (map binding_of ws))) ∙ ap spelled (sym (bindings-append f (binding_of w ∷ []) (map binding_of ws))))
+
+pub objects-row : (vs : List ℕ) → row (bits 64) vs ≡ spelled (object_fields vs)
+unfolding row spelled object_fields
+objects-row [] = refl
+objects-row (v ∷ vs) = rw (objects-row vs)
+
+-- k words of a row are put into `out` from p on; the next one stands from q on
+pub record Put (g : ℕ → List Bool) (n : ℕ) (out : List ℕ) (p : ℕ) (ws : List ℕ) (k : ℕ) (o : List ℕ) (q : ℕ) : Type 0 where
+  pub is : o ≡ ink out p (row g (take k ws))
+  pub place : q ≡ p + k * n
+  pub long : length o ≡ length out
+
+module _ (g : ℕ → List Bool) (n : ℕ) (each : (w : ℕ) → length (g w) ≡ n) where
+  row-append : (xs ys : List ℕ) → row g (xs ++ ys) ≡ row g xs ++ row g ys
+  unfolding row
+  row-append [] ys = refl
+  row-append (x ∷ xs) ys = rw (row-append xs ys, append_assoc (g x) (row g xs) (row g ys))
+
+  row-one : (w : ℕ) → row g (w ∷ []) ≡ g w
+  unfolding row
+  row-one w = append-nil (g w)
+
+  length-row : (ws : List ℕ) → length (row g ws) ≡ length ws * n
+  unfolding row
+  length-row [] = none n
+    where
+      none : (n : ℕ) → 0 ≡ 0 * n
+      none n = omega arith
+  length-row (w ∷ ws) = rw (length-append (g w) (row g ws), each w, length-row ws) (more n (length ws))
+    where
+      more : (n l : ℕ) → n + l * n ≡ suc l * n
+      more n l = omega arith
+
+  pub put-none : (out : List ℕ) (p : ℕ) (ws : List ℕ) → ink out p [] ≡ out → Put g n out p ws 0 out p
+  unfolding row
+  put-none out p ws e = record { is = sym e; place = none p n; long = refl }
+    where
+      none : (p n : ℕ) → p ≡ p + 0 * n
+      none p n = omega arith
+
+  pub put-more : {out o o' ws : List ℕ} {p k q : ℕ} → Put g n out p ws k o q → k < length ws → q + n ≤ 8 * length out → o' ≡ ink o q (g (get_or ws k 0)) → Put g n out p ws (k + 1) o' (q + n)
+  put-more {out} {o} {o'} {ws} {p} {k} {q} x h room e =
+      record {
+        is = ink-next out p (row g (take k ws)) o x.is (rw long-row (low x.place)) q (g (get_or ws k 0)) o' e (rw long-row x.place)
+            ∙ ap (ink out p) (sym (rw (add-one k, take-suc ws k 0 h, row-append (take k ws) (get_or ws k 0 ∷ []), row-one (get_or ws k 0))));
+        place = next x.place;
+        long = ink-length o q (g (get_or ws k 0)) o' e (rw (each (get_or ws k 0), x.long) room) ∙ x.long;
+      }
+    where
+      long-row : length (row g (take k ws)) ≡ k * n
+      long-row = length-row (take k ws) ∙ ap (λ (j : ℕ). j * n) (length-take-le k ws (omega arith))
+
+      low : q ≡ p + k * n → p + k * n ≤ 8 * length out
+      low e = omega arith
+
+      next : q ≡ p + k * n → q + n ≡ p + (k + 1) * n
+      next e = omega arith
+
+  pub put-all : {out o ws : List ℕ} {p k q : ℕ} → Put g n out p ws k o q → length ws ≤ k → o ≡ ink out p (row g ws)
+  put-all {out} {o} {ws} {p} {k} {q} x h = x.is ∙ ap (λ (l : List ℕ). ink out p (row g l)) (take_all k ws h)
+
+-- One level's bindings more.
 
 module _ (out o o' : List ℕ) (p : ℕ) (len : length o ≡ length out) where
-  pub object-next : (vs : List ℕ) (k q : ℕ) → k < length vs → o ≡ ink out p (spelled (object_fields (take k vs))) → p + k * 64 ≤ 8 * length out → q ≡ p + k * 64
-      → o' ≡ ink o q (bits 64 (get_or vs k 0)) → o' ≡ ink out p (spelled (object_fields (take (k + 1) vs)))
-  unfolding object_fields
-  object-next vs k q h e room d g =
-      ink-next out p (spelled (object_fields (take k vs))) o e (rw long room) q (bits 64 (get_or vs k 0)) o' g (rw long d)
-      ∙ ap (ink out p) (sym (rw (add-one k, take-suc vs k 0 h, objects-append (take k vs) (get_or vs k 0 ∷ []), spelled-append (object_fields (take k vs)) (field 64 (get_or vs k 0) ∷ []), one-spelled 64 (get_or vs k 0))))
-    where
-      long : length (spelled (object_fields (take k vs))) ≡ k * 64
-      long = length-objects (take k vs) ∙ ap (λ (j : ℕ). j * 64) (length-take-le k vs (omega arith))
-
-  pub binding-next : (f : Format) (ws : List ℕ) (k q : ℕ) → k < length ws → o ≡ ink out p (spelled (binding_fields f (map binding_of (take k ws)))) → p + k * binding_bits f ≤ 8 * length out → q ≡ p + k * binding_bits f
-      → o' ≡ ink o q (spelled (binding_fields f (binding_of (get_or ws k 0) ∷ []))) → o' ≡ ink out p (spelled (binding_fields f (map binding_of (take (k + 1) ws))))
-  binding-next f ws k q h e room d g =
-      ink-next out p (spelled (binding_fields f (map binding_of (take k ws)))) o e (rw long room) q (spelled (binding_fields f (binding_of (get_or ws k 0) ∷ []))) o' g (rw long d)
-      ∙ ap (ink out p) (sym (rw (add-one k, take-suc ws k 0 h, map-append binding_of (take k ws) (get_or ws k 0 ∷ []), bindings-append f (map binding_of (take k ws)) (binding_of (get_or ws k 0) ∷ []), spelled-append (binding_fields f (map binding_of (take k ws))) (binding_fields f (binding_of (get_or ws k 0) ∷ [])))))
-    where
-      long : length (spelled (binding_fields f (map binding_of (take k ws)))) ≡ k * binding_bits f
-      long = length-bindings f (map binding_of (take k ws)) ∙ ap (λ (j : ℕ). j * binding_bits f) (length-map (take k ws) binding_of ∙ length-take-le k ws (omega arith))
-
-  pub level-next : (f : Format) (ws : List ℕ) (k q : ℕ) → 1 ≤ k → k < length ws → o ≡ ink out p (spelled (words_fields f (drop 1 (take k ws)))) → p + (k - 1) * level_bits f ≤ 8 * length out → q ≡ p + (k - 1) * level_bits f
-      → o' ≡ ink o q (spelled (fields_of_word f (get_or ws k 0))) → o' ≡ ink out p (spelled (words_fields f (drop 1 (take (k + 1) ws))))
-  level-next f ws k q hk h e room d g =
-      ink-next out p (spelled (words_fields f (drop 1 (take k ws)))) o e (rw long room) q (spelled (fields_of_word f (get_or ws k 0))) o' g (rw long d)
-      ∙ ap (ink out p) (sym (rw (add-one k, take-suc ws k 0 h, drop-append-le 1 (take k ws) (get_or ws k 0 ∷ []) (rw (length-take-le k ws (omega arith)) hk), words_append f (drop 1 (take k ws)) (get_or ws k 0 ∷ []), spelled-append (words_fields f (drop 1 (take k ws))) (words_fields f (get_or ws k 0 ∷ [])), one_word (get_or ws k 0))))
-    where
-      one_word : (w : ℕ) → words_fields f (w ∷ []) ≡ fields_of_word f w
-      one_word w = unfold words_fields in append-nil (fields_of_word f w)
-
-      long : length (spelled (words_fields f (drop 1 (take k ws)))) ≡ (k - 1) * level_bits f
-      long = length-words f (drop 1 (take k ws)) ∙ ap (λ (j : ℕ). j * level_bits f) (length-drop 1 (take k ws) ∙ ap (λ (j : ℕ). j - 1) (length-take-le k ws (omega arith)))
-
   pub counted_next : (f : Format) (ws : List ℕ) (bs : List Binding) (k q m c : ℕ) → k < length ws → c ≡ count_of (get_or ws k 0) → m ≡ counts (take k ws) → m ≤ length bs
       → o ≡ ink out p (spelled (counted_fields f (take k ws) bs)) → p + (k * 10 + m * binding_bits f) ≤ 8 * length out → q ≡ p + (k * 10 + m * binding_bits f)
       → o' ≡ ink o q (spelled (field 10 c ∷ binding_fields f (take c (drop m bs)))) → o' ≡ ink out p (spelled (counted_fields f (take (k + 1) ws) bs))
@@ -277,3 +313,15 @@ counts-less ws k n h l =
     let s : k + (n - k) ≡ n = omega arith in
     let e : counts (take n ws) ≡ counts (take k ws) + counts (take (n - k) (drop k ws)) = ap (λ (j : ℕ). counts (take j ws)) (sym s) ∙ ap counts (take-add k (n - k) ws) ∙ counts-append (take k ws) (take (n - k) (drop k ws)) in
     omega arith
+
+-- what one level more counts
+pub record Turn (ls : List ℕ) (k total : ℕ) : Type 0 where
+  pub more : counts (take k ls) + count_of (get_or ls k 0) ≡ counts (take (k + 1) ls)
+  pub less : counts (take (k + 1) ls) ≤ total
+
+pub turn : (ls : List ℕ) (k total : ℕ) → k < length ls → counts ls ≡ total → Turn ls k total
+turn ls k total h e =
+    record {
+      more = counts-next ls k (counts (take k ls)) (count_of (get_or ls k 0)) h refl refl;
+      less = omega (arith, counts-less ls (k + 1) (length ls) (omega arith) (omega arith), ap counts (take_all (length ls) ls (omega arith)), e);
+    }

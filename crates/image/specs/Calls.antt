@@ -1,10 +1,8 @@
 -- The two calls, whole.
 use Rattle.std.specs.Prelude.{cond, ℕ, List, leb, eqb, length}
-use Rattle.pkg_length.specs.Refusal.{Answer, gives, refuses, refused, and_then}
+use Rattle.pkg_length.specs.Refusal.{Answer, gives, refuses, and_then}
 use Rattle.table.specs.Limits.{Limits}
-use Rattle.table.specs.Memory.{means, size, Edited, Left}
-use Rattle.image.specs.declared.WriteAnswer.{WriteAnswer}
-use Rattle.image.specs.declared.ReadAnswer.{ReadAnswer}
+use Rattle.table.specs.Memory.{means, size, Edited}
 use Rattle.image.specs.declared.Counts.{Counts}
 use Rattle.image.specs.Bits.{bits_in}
 use Rattle.image.specs.Format.{Format}
@@ -25,15 +23,3 @@ read_call f m bytes ws =
     cond (eqb (length ws) (size m))
     (and_then (image_in f m bytes) (λ t. gives (record { tree = t; value = counts_in bytes })))
     (refuses 24 0)
-
--- what the code's answers say
-abbrev pub write_said : WriteAnswer → Answer ℕ
-write_said (WriteAnswer.Length n) = gives n
-write_said (WriteAnswer.Refused e) = refused e
-
-abbrev pub read_said : ReadAnswer → Answer Counts
-read_said (ReadAnswer.Read n) = gives n
-read_said (ReadAnswer.Refused e) = refused e
-
-abbrev pub read_left : List ℕ → ReadAnswer → Left Counts
-read_left ws r = record { words = ws; said = read_said r }

@@ -1,46 +1,29 @@
 -- What the functions inside promise one another. No public contract rests on these.
 use Rattle.std.specs.Prelude.{ℕ, zero, suc, ◌+◌, ◌-◌, ◌*◌, ◌^◌, ◌<◌, ◌≤◌, ◌≡◌, Bool, cond, List, [], ◌∷◌, ◌++◌, map, eqb, length, take, drop, get_or}
-use Rattle.pkg_length.specs.Refusal.{Answer, gives, refused}
+use Rattle.pkg_length.specs.Refusal.{gives}
 use Rattle.image.specs.Bits.{Field, field, bits_in, bytes_for, packed}
 use Rattle.image.specs.Image.{bytes_of_segment, binding_fields, object_fields}
 use Rattle.table.specs.Limits.{Limits, limits}
-use Rattle.table.specs.Layout.{pad, bind_word, rank_of, type_of, count_of, seg_of}
-use Rattle.table.specs.Tree.{Binding}
+use Rattle.table.specs.Layout.{pad, flat, bind_word, rank_of, type_of, count_of, seg_of}
+use Rattle.table.specs.Tree.{Binding, Tree, bound}
 use Rattle.table.specs.Inside.{counts}
+use Rattle.image.specs.declared.Counts.{Counts}
+use Rattle.image.specs.Calls.{counts_in}
 use Rattle.image.specs.Format.{Format, first_edition, bindings_place, objects_place}
 use Rattle.image.specs.Reader.{first, image_checks, levels_in, bindings_in, objects_in, count_at, after, all_words, bound_at, objects_at}
-use Rattle.image.specs.declared.Counts.{Counts}
-use Rattle.image.specs.declared.test.Tested.{Tested}
-use Rattle.image.specs.declared.test.Seen.{Seen}
-use Rattle.image.specs.declared.test.LevelTested.{LevelTested}
-use Rattle.image.specs.declared.test.NumberTested.{NumberTested}
-use Rattle.image.specs.declared.test.HeaderTested.{HeaderTested}
 
 -- bits put over others from place p on, with zero bits to the byte end; all bytes behind stay
 unfoldable pub ink : List ℕ → ℕ → List Bool → List ℕ
 ink out p bs = packed (take p (bits_in out) ++ bs) ++ drop (bytes_for (p + length bs)) out
 
--- what the tests say
-abbrev pub tested : Tested → Answer (Unit {0})
-tested Tested.Fine = gives tt
-tested (Tested.Refused e) = refused e
-
-abbrev pub level_said : LevelTested → Answer Seen
-level_said (LevelTested.Fine l) = gives l
-level_said (LevelTested.Refused e) = refused e
-
-abbrev pub number_said : NumberTested → Answer ℕ
-number_said (NumberTested.Fine n) = gives n
-number_said (NumberTested.Refused e) = refused e
-
-abbrev pub header_said : HeaderTested → Answer Counts
-header_said (HeaderTested.Fine n) = gives n
-header_said (HeaderTested.Refused e) = refused e
-
 -- n levels' bindings stand from place q on, at most rest of them
 abbrev pub Walk : Format → List Bool → ℕ → ℕ → ℕ → Type 0
 Walk f bs zero q rest = Unit {0}
 Walk f bs (suc n) q rest = (after f bs q ≤ length bs) × (count_at bs q ≤ rest) × Walk f bs n (after f bs q) (rest - count_at bs q)
+
+-- the bindings of the root and of n levels more
+abbrev pub all_bound : List Bool → ℕ → List Binding
+all_bound bs n = bound_at first_edition bs (suc n) (bindings_place first_edition n)
 
 -- the words of an image that was tested
 unfoldable pub loaded : Format → Limits → List Bool → List ℕ
@@ -50,10 +33,8 @@ loaded f m bs =
     ++ (objects_in bs ∷ pad m.objects (objects_at bs (objects_in bs) (objects_place f (levels_in bs) (bindings_in bs)))))
 
 -- an image that passes every check, with its counts
-pub record Accepted (bytes : List ℕ) (n total made : ℕ) : Type 0 where
-  pub levels : n ≡ levels_in (bits_in bytes)
-  pub bindings : total ≡ bindings_in (bits_in bytes)
-  pub objects : made ≡ objects_in (bits_in bytes)
+pub record Accepted (bytes : List ℕ) (c : Counts) : Type 0 where
+  pub counts : c ≡ counts_in bytes
   pub checked : first (image_checks first_edition limits (bits_in bytes)) ≡ gives tt
 
 -- Words as fields, for the writer.
@@ -84,8 +65,8 @@ unfoldable pub table_fields : Format → List ℕ → ℕ → List Binding → L
 table_fields f ws n bs vs = counts_fields f (length ws - 1) n (length vs) ++ (words_fields f (drop 1 ws) ++ (counted_fields f ws bs ++ object_fields vs))
 
 -- every word has a rank
-abbrev pub Ranked : List ℕ → ℕ → Type 0
-Ranked ws n = (k : ℕ) → k < n → 2 ^ 45 ≤ get_or ws k 0
+abbrev pub Ranked : List ℕ → Type 0
+Ranked ws = (k : ℕ) → k < length ws → 2 ^ 45 ≤ get_or ws k 0
 
 -- from a place on nothing stands yet in its byte, and so many bits have room
 pub record Ready (out : List ℕ) (at n : ℕ) : Type 0 where
@@ -93,14 +74,17 @@ pub record Ready (out : List ℕ) (at n : ℕ) : Type 0 where
   pub room : at + n ≤ 8 * length out
   pub low : at + n < 2 ^ 19
 
--- the parts of a table: n levels, b bindings, o objects
-pub record Filled (ws : List ℕ) (n : ℕ) (bs : List ℕ) (b : ℕ) (vs : List ℕ) (o : ℕ) : Type 0 where
-  pub ranked : Ranked ws n
-  pub rooted : 1 ≤ n
-  pub levels : n ≤ length ws
-  pub few : n ≤ 128
-  pub counted : counts (take n ws) ≡ b
-  pub bindings : b ≤ length bs
+-- the words of a table that are in use: levels, bindings, and objects' values
+pub record Filled (ws bs vs : List ℕ) : Type 0 where
+  pub ranked : Ranked ws
+  pub rooted : 1 ≤ length ws
+  pub few : length ws ≤ 128
+  pub counted : counts ws ≡ length bs
   pub bounded : length bs ≤ 512
-  pub objects : o ≤ length vs
-  pub made : o ≤ 512
+  pub made : length vs ≤ 512
+
+-- they are those that a tree is written as
+pub record IsInUse (t : Tree) (ws bs vs : List ℕ) : Type 0 where
+  pub levels : ws ≡ flat 1 t.levels
+  pub bindings : bs ≡ map bind_word (bound t.levels)
+  pub objects : vs ≡ t.objects

@@ -1,4 +1,5 @@
 // Fields at any bit of bytes, most significant bit first. A field is taken in parts, each as much as one byte has of it.
+// Bytes and a place go as two arguments: places are worked out from counts, so a type of both would be made anew for each field, with the same bound to prove.
 ghost use Rattle.std.specs.Prelude.{◌≡◌, ◌+◌, ◌-◌, ◌*◌, ◌/◌, ◌%◌, ◌^◌, ◌<◌, ◌≤◌, length};
 ghost use Rattle.image.specs.Bits.{bits, bits_in, number_at};
 ghost use Rattle.image.specs.Inside.{ink};
@@ -23,7 +24,7 @@ fn taken(b: u8, behind: usize, n: usize) -> u64
     requires { behind + n ≤ 8 }
     ensures { result ≡ b / 2 ^ (8 - behind - n) % 2 ^ n }
 {
-    ((b as u64) >> (8 - behind - n)) % power(n)
+    (u64::from(b) >> (8 - behind - n)) % power(n)
 }
 
 // The number in `width` bits from bit `at` on.
@@ -33,6 +34,7 @@ pub(crate) fn field(bytes: &[u8], at: usize, width: usize) -> u64
 {
     let mut v: u64 = 0;
     let mut done = 0;
+    // No range counts the turns: each takes what its byte has.
     while done < width {
         let p = at + done;
         let n = part(p % 8, width - done);
@@ -47,7 +49,7 @@ fn merged(b: u8, behind: usize, n: usize, v: u64) -> u8
     requires { behind + n ≤ 8 }
     ensures { result ≡ b / 2 ^ (8 - behind) * 2 ^ (8 - behind) + v % 2 ^ n * 2 ^ (8 - behind - n) }
 {
-    let high = ((b as u64) >> (8 - behind)) * power(8 - behind);
+    let high = (u64::from(b) >> (8 - behind)) * power(8 - behind);
     (high + v % power(n) * power(8 - behind - n)) as u8
 }
 

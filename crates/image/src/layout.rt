@@ -1,4 +1,6 @@
 // The first edition's fields (specs/Format.antt).
+ghost use Rattle.std.specs.Prelude.{◌≡◌, ◌<◌, ◌≤◌};
+ghost use Rattle.image.specs.Format.{first_edition, objects_place as place_of_objects};
 
 pub(crate) const EDITION: u64 = 1;
 
@@ -16,3 +18,11 @@ pub(crate) const HEADER_BITS: usize = 32;
 pub(crate) const LEVEL_BITS: usize = DEPTH_BITS + 35;
 // segment and handle
 pub(crate) const BINDING_BITS: usize = 32 + HANDLE_BITS;
+
+// Where the objects begin, behind so many levels below the root and all bindings.
+pub(crate) fn objects_place(levels: usize, bindings: usize) -> usize
+    requires { (levels < 128) × (bindings ≤ 512) }
+    ensures { result ≡ place_of_objects first_edition levels bindings }
+{
+    HEADER_BITS + levels * LEVEL_BITS + (levels + 1) * 10 + bindings * BINDING_BITS
+}

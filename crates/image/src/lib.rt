@@ -2,14 +2,15 @@
 #![tactic(auto)]
 
 ghost use Rattle.std.specs.Prelude.{◌≡◌, length};
+ghost use Rattle.pkg_length.specs.Refusal.{said};
 ghost use Rattle.pkg_length.specs.Wrote.{wrote};
 ghost use Rattle.table.specs.Limits.{limits};
 ghost use Rattle.table.specs.Memory.{left};
 ghost use Rattle.image.specs.Format.{first_edition};
-ghost use Rattle.image.specs.Calls.{write_call, read_call, write_said, read_left};
+ghost use Rattle.image.specs.Calls.{write_call, read_call};
 
 use pkg_length::AmlError;
-use table::layout::{COUNT_AT, LEVELS, VALUES_AT, WORDS};
+use table::layout::WORDS;
 
 mod bits;
 mod layout;
@@ -18,66 +19,38 @@ mod save;
 mod segments;
 mod test;
 
-// The bytes written.
-#[derive(Clone, Copy)]
-pub enum WriteAnswer {
-    Length(usize),
-    Refused(AmlError),
-}
-
 // What an image holds, the levels counted without the root.
-#[derive(Clone, Copy)]
+#[derive(Clone, Copy, Debug, PartialEq, Eq)]
 pub struct Counts {
     pub levels: usize,
     pub bindings: usize,
     pub objects: usize,
 }
 
-#[derive(Clone, Copy)]
-pub enum ReadAnswer {
-    Read(Counts),
-    Refused(AmlError),
-}
-
-// Writes the table's image at the start of `out`.
-pub fn write(table: &[u64], out: &mut [u8]) -> WriteAnswer
-    ensures { record { out = out.new; said = write_said result } ≡ wrote out.old (write_call first_edition limits (length out.old) table.now) }
+// Writes the table's image at the start of `out`, and gives the bytes written.
+pub fn write(table: &[u64], out: &mut [u8]) -> Result<usize, AmlError>
+    ensures { record { out = out.new; said = said result } ≡ wrote out.old (write_call first_edition limits (length out.old) table.now) }
 {
-    if table::well_formed(table) {
-        let n = save::used(&table[..LEVELS]);
-        let b = save::used(&table[LEVELS..COUNT_AT]);
-        let o = table[COUNT_AT] as usize;
-        let bytes = save::length(n, b, o);
-        if out.len() < bytes {
-            return WriteAnswer::Refused(AmlError::OutTooSmall(0));
-        }
-        save::fill(
-            out,
-            &table[..LEVELS],
-            n,
-            &table[LEVELS..COUNT_AT],
-            b,
-            &table[VALUES_AT..],
-            o,
-        );
-        return WriteAnswer::Length(bytes);
+    if !table::well_formed(table) {
+        return Err(AmlError::BadTable);
     }
-    WriteAnswer::Refused(AmlError::BadTable)
+    let words = save::InUse::of(table);
+    let bytes = words.length();
+    if out.len() < bytes {
+        return Err(AmlError::OutTooSmall(0));
+    }
+    words.write(out);
+    Ok(bytes)
 }
 
 // Makes the table of an image, whatever its words held. The whole image is tested before a word is written.
-pub fn read(bytes: &[u8], table: &mut [u64]) -> ReadAnswer
-    ensures { read_left table.new result ≡ left limits table.old (read_call first_edition limits bytes.now table.old) }
+pub fn read(bytes: &[u8], table: &mut [u64]) -> Result<Counts, AmlError>
+    ensures { record { words = table.new; said = said result } ≡ left limits table.old (read_call first_edition limits bytes.now table.old) }
 {
-    if table.len() == WORDS {
-        match test::image(bytes) {
-            test::HeaderTested::Refused(e) => ReadAnswer::Refused(e),
-            test::HeaderTested::Fine(c) => {
-                load::fill(bytes, table, c.levels, c.bindings, c.objects);
-                ReadAnswer::Read(c)
-            }
-        }
-    } else {
-        ReadAnswer::Refused(AmlError::BadTable)
+    if table.len() != WORDS {
+        return Err(AmlError::BadTable);
     }
+    let c = test::image(bytes)?;
+    load::fill(bytes, table, c);
+    Ok(c)
 }

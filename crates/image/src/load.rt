@@ -1,105 +1,109 @@
 // The words of an image that was tested, put into a table. The level records and the counts of bindings stand apart, so two places walk along.
-ghost use Rattle.std.specs.Prelude.{◌≡◌, ◌++◌, map, suc, ◌+◌, ◌*◌, ◌^◌, ◌<◌, ◌≤◌, length, take, drop};
+ghost use Rattle.std.specs.Prelude.{◌≡◌, ℕ, ◌++◌, map, suc, ◌+◌, ◌*◌, ◌^◌, ◌<◌, ◌≤◌, length, take, drop, slice_index};
 ghost use Rattle.table.specs.Limits.{limits};
 ghost use Rattle.table.specs.Memory.{size};
 ghost use Rattle.table.specs.Layout.{pack, bind_word};
 ghost use Rattle.image.specs.Bits.{bits_in, number_at};
 ghost use Rattle.image.specs.Format.{first_edition, header_bits, bindings_place};
-ghost use Rattle.image.specs.Reader.{depth_at, type_at, chars_at, segment_number, handle_at, all_words, bindings_at, bound_at, objects_at};
-ghost use Rattle.image.specs.Inside.{Walk, Accepted, loaded};
+ghost use Rattle.image.specs.Reader.{depth_at, type_at, chars_at, segment_number, handle_at, all_words};
+ghost use Rattle.image.specs.Inside.{Walk, all_bound, Accepted, loaded};
 
 use crate::layout::{BINDING_BITS, DEPTH_BITS, HANDLE_BITS, HEADER_BITS, LEVEL_BITS};
-use crate::{bits, segments};
-use table::layout::{COUNT, COUNT_AT, LEVELS, RANK, SEGMENT, TYPE, VALUES_AT};
+use crate::{Counts, bits, layout, segments};
+use table::layout::{BindingWord, COUNT_AT, LEVELS, LevelWord, VALUES_AT};
 
 // A level's word, of a record and a count of bindings.
-fn level_word(bytes: &[u8], at: usize, count: u64) -> u64
+fn level_word(bytes: &[u8], at: usize, count: usize) -> u64
     requires { (at + 41 ≤ 8 * length bytes.now) × (at < 2 ^ 20) × (count < 1024) }
     ensures { result ≡ pack (suc (depth_at first_edition (bits_in bytes.now) at)) (type_at first_edition (bits_in bytes.now) at) count (segment_number (chars_at first_edition (bits_in bytes.now) at)) }
 {
-    let depth = bits::field(bytes, at, DEPTH_BITS);
+    let depth = bits::field(bytes, at, DEPTH_BITS) as usize;
     let typ = bits::field(bytes, at + DEPTH_BITS, 3);
     let chars = bits::field(bytes, at + DEPTH_BITS + 3, 32);
-    (depth + 1) * RANK + typ * TYPE + count * COUNT + segments::number(chars)
+    let segment = segments::number(chars);
+    LevelWord::new(depth + 1, typ, count, segment).0
 }
 
 // The levels' words, the root's first.
-fn levels(bytes: &[u8], words: &mut [u64], n: usize, total: usize)
-    requires { (n < length words.old) × (n < 128) × (header_bits + n * 41 ≤ 8 * length bytes.now) × (length bytes.now < 2 ^ 16) × Walk first_edition (bits_in bytes.now) (suc n) (bindings_place first_edition n) total }
+fn levels(bytes: &[u8], words: &mut [u64], n: usize)
+    requires { (n < length words.old) × (n < 128) × (header_bits + n * 41 ≤ 8 * length bytes.now) × (length bytes.now < 2 ^ 16) × ((total : ℕ) × Walk first_edition (bits_in bytes.now) (suc n) (bindings_place first_edition n) total) }
     ensures { words.new ≡ all_words first_edition (bits_in bytes.now) n ++ drop (suc n) words.old }
 {
     let root = HEADER_BITS + n * LEVEL_BITS;
-    let own = bits::field(bytes, root, 10);
-    words[0] = RANK + own * COUNT;
-    let mut at = root + 10 + own as usize * BINDING_BITS;
-    let mut k = 0;
-    while k < n {
-        let count = bits::field(bytes, at, 10);
+    let own = bits::field(bytes, root, 10) as usize;
+    words[0] = LevelWord::new(1, 0, own, 0).0;
+    let mut at = root + 10 + own * BINDING_BITS;
+    for k in 0..n {
+        let count = bits::field(bytes, at, 10) as usize;
         words[k + 1] = level_word(bytes, HEADER_BITS + k * LEVEL_BITS, count);
-        at = at + 10 + count as usize * BINDING_BITS;
-        k += 1;
+        at = at + 10 + count * BINDING_BITS;
     }
 }
 
 // A binding's word.
 fn binding_word(bytes: &[u8], at: usize) -> u64
     requires { (at + 42 ≤ 8 * length bytes.now) × (at < 2 ^ 20) }
-    ensures { result ≡ segment_number (number_at (bits_in bytes.now) 32 at) * 2 ^ 32 + handle_at first_edition (bits_in bytes.now) at }
+    ensures { result ≡ bind_word (record { segment = segment_number (number_at (bits_in bytes.now) 32 at); handle = handle_at first_edition (bits_in bytes.now) at }) }
 {
     let chars = bits::field(bytes, at, 32);
-    segments::number(chars) * SEGMENT + bits::field(bytes, at + 32, HANDLE_BITS)
+    let handle = bits::field(bytes, at + 32, HANDLE_BITS);
+    let segment = segments::number(chars);
+    BindingWord::new(segment, handle as u32).0
 }
 
-// A level's bindings, behind the m words that are there.
-fn own(bytes: &[u8], at: usize, n: usize, words: &mut [u64], m: usize)
-    requires { (m + n ≤ length words.old) × (at + n * 42 ≤ 8 * length bytes.now) × (at < 2 ^ 19) × (n < 1024) }
-    ensures { words.new ≡ take m words.old ++ (map bind_word (bindings_at first_edition (bits_in bytes.now) n at) ++ drop (m + n) words.old) }
+// The words of things that stand one behind the other in an image, each so many bits wide.
+fn each<F: Fn(usize) -> u64>(words: &mut [u64], mut at: usize, width: usize, word: F)
+    requires { (width < 2 ^ 32) × ((k : ℕ) → k < length words.old → F.pre word (at + k * width) × (at + k * width < 2 ^ 32)) }
+    ensures { (k : ℕ) → k < length words.old → F.post word (at + k * width) (slice_index words.new k) }
 {
-    let mut k = 0;
-    while k < n {
-        words[m + k] = binding_word(bytes, at + k * BINDING_BITS);
-        k += 1;
+    for w in words.iter_mut() {
+        *w = word(at);
+        at += width;
     }
 }
 
 // All bindings, level by level, behind the levels' words.
-fn bindings(bytes: &[u8], words: &mut [u64], n: usize, total: usize)
-    requires { (128 + total ≤ length words.old) × (total ≤ 512) × (n < 128) × (length bytes.now < 2 ^ 16) × Walk first_edition (bits_in bytes.now) (suc n) (bindings_place first_edition n) total × (length (bound_at first_edition (bits_in bytes.now) (suc n) (bindings_place first_edition n)) ≡ total) }
-    ensures { words.new ≡ take 128 words.old ++ (map bind_word (bound_at first_edition (bits_in bytes.now) (suc n) (bindings_place first_edition n)) ++ drop (128 + total) words.old) }
+fn bindings(bytes: &[u8], words: &mut [u64], n: usize)
+    requires { (128 + length (all_bound (bits_in bytes.now) n) ≤ length words.old) × (length (all_bound (bits_in bytes.now) n) ≤ 512) × (n < 128) × (length bytes.now < 2 ^ 16) × Walk first_edition (bits_in bytes.now) (suc n) (bindings_place first_edition n) (length (all_bound (bits_in bytes.now) n)) }
+    ensures { words.new ≡ take 128 words.old ++ (map bind_word (all_bound (bits_in bytes.now) n) ++ drop (128 + length (all_bound (bits_in bytes.now) n)) words.old) }
 {
     let mut at = HEADER_BITS + n * LEVEL_BITS;
     let mut m = LEVELS;
-    let mut k = 0;
-    while k <= n {
+    for k in 0..n + 1 {
         let count = bits::field(bytes, at, 10) as usize;
-        own(bytes, at + 10, count, words, m);
+        let own = &mut words[m..m + count];
+        each(
+            own,
+            at + 10,
+            BINDING_BITS,
+            |place|
+                requires { (place + 42 ≤ 8 * length bytes.now) × (place < 2 ^ 20) }
+                ensures { result ≡ bind_word (record { segment = segment_number (number_at (bits_in bytes.entry.now) 32 place); handle = handle_at first_edition (bits_in bytes.entry.now) place }) }
+            { binding_word(bytes, place) },
+        );
         m += count;
         at = at + 10 + count * BINDING_BITS;
-        k += 1;
-    }
-}
-
-// The objects' values, behind the m words that are there.
-fn objects(bytes: &[u8], at: usize, n: usize, words: &mut [u64], m: usize)
-    requires { (m + n ≤ length words.old) × (at + n * 64 ≤ 8 * length bytes.now) × (at < 2 ^ 19) × (n < 1024) }
-    ensures { words.new ≡ take m words.old ++ (objects_at (bits_in bytes.now) n at ++ drop (m + n) words.old) }
-{
-    let mut k = 0;
-    while k < n {
-        words[m + k] = bits::field(bytes, at + k * 64, 64);
-        k += 1;
     }
 }
 
 // The whole table.
-pub(crate) fn fill(bytes: &[u8], table: &mut [u64], n: usize, total: usize, made: usize)
-    requires { Accepted bytes.now n total made × (length table.old ≡ size limits) }
+pub(crate) fn fill(bytes: &[u8], table: &mut [u64], c: Counts)
+    requires { Accepted bytes.now c × (length table.old ≡ size limits) }
     ensures { table.new ≡ loaded first_edition limits (bits_in bytes.now) }
 {
-    table::inner::clear(table);
-    levels(bytes, table, n, total);
-    bindings(bytes, table, n, total);
-    table[COUNT_AT] = made as u64;
-    let at = HEADER_BITS + n * LEVEL_BITS + (n + 1) * 10 + total * BINDING_BITS;
-    objects(bytes, at, made, table, VALUES_AT);
+    table.fill(0);
+    levels(bytes, table, c.levels);
+    bindings(bytes, table, c.levels);
+    table[COUNT_AT] = c.objects as u64;
+    let at = layout::objects_place(c.levels, c.bindings);
+    let objects = &mut table[VALUES_AT..VALUES_AT + c.objects];
+    each(
+        objects,
+        at,
+        64,
+        |place|
+            requires { (place + 64 ≤ 8 * length bytes.now) × (place < 2 ^ 20) }
+            ensures { result ≡ number_at (bits_in bytes.entry.now) 64 place }
+        { bits::field(bytes, place, 64) },
+    );
 }

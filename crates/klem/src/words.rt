@@ -1,245 +1,110 @@
-// The words of a line, and what they spell. A word that spells nothing is `Bad`.
-ghost use Rattle.std.specs.Prelude.{◌≤◌};
+// The words of a line, and what they spell.
+ghost use Rattle.std.specs.Prelude.{◌<◌, ◌≤◌, length, IfSome};
+ghost use Rattle.std.specs.Iterator.{at_most};
 
-// The bytes from a up to e, or none where that is no part.
-pub fn part(line: &[u8], a: usize, e: usize) -> &[u8] {
-    if a <= e {
-        if e <= line.len() {
-            return &line[a..e];
-        }
-    }
-    &line[..0]
+// No hex spells more bytes, and no call is given or gives more.
+pub const MOST_BYTES: usize = 100_000;
+
+fn is_blank(byte: u8) -> bool {
+    matches!(byte, b' ' | b'\t')
 }
 
-// The bytes behind the one at `at`.
-pub fn behind(line: &[u8], at: usize) -> &[u8] {
-    if at < line.len() {
-        return &line[at + 1..];
-    }
-    &line[..0]
-}
-
-// A word's place in its line; empty where there is no word.
-#[derive(Clone, Copy)]
-pub struct Span {
-    pub from: usize,
-    pub to: usize,
-}
-
-pub fn spelled(line: &[u8], s: Span) -> &[u8] {
-    part(line, s.from, s.to)
-}
-
-// The first word from `at` on.
-pub fn next(line: &[u8], at: usize) -> Span {
-    let from = past(line, at, true);
-    Span {
-        from,
-        to: past(line, from, false),
-    }
-}
-
-// Where the blanks from `from` on end, or the bytes that are none.
-fn past(line: &[u8], from: usize, blanks: bool) -> usize {
-    let mut i = from;
-    while i < line.len() {
-        let blank = match line[i] {
-            b' ' | b'\t' => true,
-            _ => false,
-        };
-        if blank != blanks {
-            return i;
-        }
-        i += 1;
-    }
-    i
-}
-
-// Without the blanks and carriage returns at its end.
+// A line without the blanks and carriage returns at its end. `trim_ascii_end` would drop a form feed too, which is part of a word.
 pub fn trimmed(line: &[u8]) -> &[u8] {
-    part(line, 0, trimmed_length(line))
-}
-
-fn trimmed_length(line: &[u8]) -> usize {
-    let mut n = line.len();
-    while 0 < n {
-        match line[n - 1] {
-            b' ' | b'\t' | b'\r' => {
-                n -= 1;
-            }
-            _ => {
-                return n;
-            }
-        }
+    let last = line.iter().rposition(|b| !is_blank(*b) && *b != b'\r');
+    match last {
+        Some(last) => &line[..=last],
+        None => &[],
     }
-    0
 }
 
-// The index of `b`, or the word's end.
-pub fn find(word: &[u8], b: u8) -> usize {
-    let mut i = 0;
-    while i < word.len() {
-        if word[i] == b {
-            return i;
-        }
-        i += 1;
-    }
-    i
-}
-
+// The words that are left of a line: each is a run of bytes that are no blanks.
 #[derive(Clone, Copy)]
-pub enum Number {
-    Is(u64),
-    Bad,
+pub struct Words<'a> {
+    rest: &'a [u8],
 }
 
-// A number of 64 bits: decimal, or `0x` and up to 16 hex digits.
-pub fn number_of(word: &[u8]) -> Number {
-    if is_hex(word) {
-        return digits(part(word, 2, word.len()), true);
+impl<'a> Words<'a> {
+    pub fn of(line: &'a [u8]) -> Words<'a> {
+        Words { rest: line }
     }
-    digits(word, false)
-}
 
-// Whether it is `0x` and no more digits than fit.
-fn is_hex(word: &[u8]) -> bool {
-    if word.len() < 2 {
-        return false;
-    }
-    if 18 < word.len() {
-        return false;
-    }
-    if word[0] != b'0' {
-        return false;
-    }
-    match word[1] {
-        b'x' | b'X' => true,
-        _ => false,
-    }
-}
-
-fn digits(word: &[u8], hex: bool) -> Number {
-    if word.len() == 0 {
-        return Number::Bad;
-    }
-    let mut n: u64 = 0;
-    let mut i = 0;
-    while i < word.len() {
-        match with_digit(n, digit(word[i]), hex) {
-            Number::Is(next) => {
-                n = next;
-            }
-            Number::Bad => {
-                return Number::Bad;
-            }
+    // The bytes behind the blank that ends the last word.
+    pub fn behind(self) -> &'a [u8] {
+        match self.rest {
+            [_, behind @ ..] => behind,
+            [] => self.rest,
         }
-        i += 1;
     }
-    Number::Is(n)
 }
 
-// One digit more behind n.
-fn with_digit(n: u64, d: u8, hex: bool) -> Number {
-    let ones = d as u64;
-    if hex {
-        if 15 < d {
-            return Number::Bad;
-        }
-        if 1152921504606846975 < n {
-            return Number::Bad;
-        }
-        return Number::Is(n * 16 + ones);
+impl<'a> Iterator for Words<'a> {
+    type Item = &'a [u8];
+
+    ghost remaining = { λ s. at_most (length s.rest.now) };
+
+    fn next(&mut self) -> Option<&'a [u8]> {
+        let from = self.rest.iter().position(|b| !is_blank(*b))?;
+        let word = &self.rest[from..];
+        let (_first, behind) = word.split_first()?;
+        let more = behind
+            .iter()
+            .position(|b| is_blank(*b))
+            .unwrap_or(behind.len());
+        self.rest = &behind[more..];
+        word.get(..=more)
     }
-    if 9 < d {
-        return Number::Bad;
-    }
-    if (18446744073709551615 - ones) / 10 < n {
-        return Number::Bad;
-    }
-    Number::Is(n * 10 + ones)
 }
 
-// 16 where b is no digit.
-fn digit(b: u8) -> u8
-    ensures { result ≤ 16 }
+fn digit(byte: u8, radix: u32) -> Option<u8>
+    requires { (2 ≤ radix) × (radix ≤ 36) }
+    ensures { IfSome result (λ d. d < radix) }
 {
-    match b {
-        b'0'..=b'9' => b - b'0',
-        b'A'..=b'F' => b - b'A' + 10,
-        b'a'..=b'f' => b - b'a' + 10,
-        _ => 16,
-    }
+    let digit = char::from(byte).to_digit(radix)?;
+    Some(digit as u8)
 }
 
-// How many bytes stand in the buffer.
-#[derive(Clone, Copy)]
-pub enum Hex {
-    Bytes(usize),
-    Bad,
-}
-
-// Pairs of hex digits to bytes; `-` for none.
-pub fn bytes_of(word: &[u8], bytes: &mut [u8]) -> Hex {
-    if is_odd(word, bytes.len()) {
-        return Hex::Bad;
-    }
-    let n = least(word.len() / 2, bytes.len());
-    let mut i = 0;
-    while i < n {
-        let b = pair(word[2 * i], word[2 * i + 1]);
-        if 255 < b {
-            return Hex::Bad;
-        }
-        bytes[i] = b as u8;
-        i += 1;
-    }
-    Hex::Bytes(n)
-}
-
-// Whether the word is no pairs, or more than there is room for. Of `-`, half a pair is none.
-fn is_odd(word: &[u8], room: usize) -> bool {
-    if word.len() == 1 {
-        return word[0] != b'-';
-    }
-    if room < word.len() / 2 {
-        return true;
-    }
-    word.len() % 2 == 1
-}
-
-// 256 where one of the two is no digit.
-fn pair(high: u8, low: u8) -> u64 {
-    let h = digit(high) as u64;
-    let l = digit(low) as u64;
-    if 15 < h {
-        return 256;
-    }
-    if 15 < l {
-        return 256;
-    }
-    h * 16 + l
-}
-
-pub fn least(a: usize, b: usize) -> usize
-    ensures { (result ≤ a) × (result ≤ b) }
+fn digits(word: &[u8], radix: u32) -> Option<u64>
+    requires { (2 ≤ radix) × (radix ≤ 36) }
 {
-    if a < b {
-        return a;
+    if word.is_empty() {
+        return None;
     }
-    b
+    let mut number = 0u64;
+    for byte in word {
+        let digit = digit(*byte, radix)?;
+        number = number
+            .checked_mul(u64::from(radix))?
+            .checked_add(u64::from(digit))?;
+    }
+    Some(number)
 }
 
-// Moves the bytes from `from` up to `end` to the front; how many they are.
-pub fn shift(bytes: &mut [u8], from: usize, end: usize) -> usize {
-    let mut i = 0;
-    let mut j = from;
-    while j < end {
-        if bytes.len() <= j {
-            return i;
-        }
-        bytes[i] = bytes[j];
-        i += 1;
-        j += 1;
+// A number of 64 bits: decimal, or `0x` and up to 16 hex digits. `parse` would take a sign too, which no script may write.
+pub fn number(word: &[u8]) -> Option<u64> {
+    match word {
+        [b'0', b'x' | b'X', hex @ ..] if hex.len() <= 16 => digits(hex, 16),
+        _ => digits(word, 10),
     }
-    i
+}
+
+// The byte that two hex digits spell.
+fn pair([high, low]: [u8; 2]) -> Option<u8> {
+    Some(digit(high, 16)? * 16 + digit(low, 16)?)
+}
+
+// The bytes that pairs of hex digits spell, written to the front of the room; `-` spells none.
+pub fn decoded<'a>(word: &[u8], room: &'a mut [u8]) -> Option<&'a [u8]> {
+    if matches!(word, [b'-']) {
+        return Some(&[]);
+    }
+    let (pairs, odd) = word.as_chunks::<2>();
+    if !odd.is_empty() {
+        return None;
+    }
+    let bytes = room.get_mut(..pairs.len())?;
+    for (byte, digits) in bytes.iter_mut().zip(pairs) {
+        *byte = pair(*digits)?;
+    }
+    Some(bytes)
 }

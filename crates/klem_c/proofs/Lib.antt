@@ -1,5 +1,3 @@
 -- What the proofs of several functions use.
 mod Copies
-mod Packed
-mod Results
 mod Runs

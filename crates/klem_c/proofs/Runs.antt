@@ -1,85 +1,76 @@
--- What the check and the run of a block leave, from what the layer below promises of them.
+-- What the run of a block leaves, from what the layer below promises of it. The promises of the check and of the run each leave one answer open.
 use mathlib.Core.Path.{◌≡◌, refl, sym, ◌∙◌, ap}
-use mathlib.Core.Bool.{Bool, true, false, ◌&&◌, cond}
+use mathlib.Core.Bool.{Bool, true, false, cond}
 use mathlib.Core.List.{List, []}
 use Prim.Native.Nat.{ℕ}
-use native.Mathlib.Omega.{arith}
-use lib.ListN.{get_or}
-use Rattle.pkg_length.specs.Refusal.{Answer, gives, refuses}
+use lib.ListN.{length, get_or}
+use borrow.Author.Tests.{eq-eqb}
+use Rattle.std.specs.Prelude.{Result, Ok, Err}
+use Rattle.pkg_length.specs.Refusal.{Answer, gives, refuses, refused}
+use Rattle.pkg_length.specs.declared.AmlError.{AmlError}
 use Rattle.grammar.specs.Tree.{Stmts}
 use Rattle.grammar.specs.Reader.{read_block}
 use Rattle.grammar.proofs.Theorems.{derives-what-reads}
-use Rattle.grammar.specs.declared.CheckAnswer.{CheckAnswer}
-use Rattle.statement.specs.declared.RunAnswer.{RunAnswer}
 use Rattle.statement.specs.Meaning.{Outcome}
-use Rattle.grammar.specs.Promise.{Verdict, Checked, check_said}
 use Rattle.statement.specs.Promise.{end_said, HasRun}
-use Rattle.klem_c.specs.Result.{bad_slice, bad_width, result_words, result_of, valued, nothing, sized, After, leaves, words_of}
-use Rattle.klem_c.specs.Frames.{frame_size, fits_frame, is_width_bits, word_of_width, frame_at, frame_words}
+use Rattle.statement.specs.declared.Execution.{Execution}
+use Rattle.statement.specs.declared.frame.Frame.{Frame}
+use Rattle.klem_c.specs.Result.{result_of, After, leaves}
+use Rattle.klem_c.specs.Frames.{fits_frame, is_width_bits, word_of_width, frame_at, frame_words, frame_read}
 use Rattle.klem_c.specs.Blocks.{KlemCheck, KlemRun, run_words}
-use Rattle.klem_c.specs.declared.reply.Reply.{Reply}
-use Rattle.klem_c.proofs.Results.{both, and-true, tells, paper-numbered}
+use Rattle.klem_c.specs.declared.reply.Fault.{Fault}
+use Rattle.klem_c.specs.declared.reply.Fault.TheVariants.{BadWidth}
 
-told-verdict : CheckAnswer → List ℕ
-told-verdict v = result_of (valued nothing (check_said v))
+-- words whose frame is read have one of the widths, and hold that frame
+read-width : (frame : List ℕ) (f : Frame) → ◌≡◌ {A = Result Frame Fault} (frame_read frame) (Ok f) → (is_width_bits (word_of_width frame) ≡ true) × (f ≡ frame_at frame)
+read-width frame f h = go (is_width_bits (word_of_width frame)) h
+  where
+    go : (b : Bool) → ◌≡◌ {A = Result Frame Fault} (cond b (Ok (frame_at frame)) (Err (BadWidth (word_of_width frame)))) (Ok f) → (b ≡ true) × (f ≡ frame_at frame)
+    go true e = (refl, cc)
+    go false e = absurd cc
 
--- number 0 is told of an accepted block alone
-accepts : (v : CheckAnswer) (t : Reply) → words_of t ≡ told-verdict v → t.number ≡ 0 → v ≡ CheckAnswer.Accepted
-unfolding told-verdict
-accepts CheckAnswer.Accepted t w z = refl
-accepts (CheckAnswer.Refused e) t w z = absurd (paper-numbered e (sym (ap (λ (ws : List ℕ). get_or ws 0 0) w) ∙ z))
+module _ (block frame : List ℕ) (budget : ℕ) (result : List ℕ) (a : length result ≡ 8) (b : length frame ≡ 31) where
+  fits : fits_frame result frame ≡ true
+  fits = rw (eq-eqb _ _ a, eq-eqb _ _ b)
 
--- 0 is no number of the library's own
-zero-told : (fit : Bool) (result : List ℕ) (t : Reply) → (leaves fit result [] (words_of t) []).number ≡ 0 → t.number ≡ 0
-zero-told true result t z = z
-zero-told false result t z = absurd (omega arith)
+  -- a result that is written, beside a frame
+  beside : {r : ℕ} {result' frame' words words' new : List ℕ} → record { number = r; result = result'; lent = [] } ≡ leaves true result [] words [] → words ≡ words' → frame' ≡ new →
+      record { number = r; result = result'; lent = frame' } ≡ leaves (fits_frame result frame) result frame words' new
+  beside h w l =
+      rw fits
+      (λ i. record {
+        number = (ap (λ (x : After). x.number) h ∙ ap (λ (ws : List ℕ). get_or ws 0 0) w) i;
+        result = (ap (λ (x : After). x.result) h ∙ w) i;
+        lent = l i;
+      })
 
-pub check-left : (block result : List ℕ) {left : After} (t : Reply) (v : CheckAnswer) → Checked block v → left ≡ leaves (sized result_words result && true) result [] (words_of t) [] →
-    words_of t ≡ result_of (valued nothing (check_said v)) → KlemCheck block result left
-unfolding told-verdict
-check-left block result t v k h w =
-    let h' = rw (and-true (sized result_words result)) at h in
-    record {
-      derived = λ tree d. h' ∙ ap (λ (ws : List ℕ). leaves (sized result_words result) result [] ws []) (w ∙ ap told-verdict (k.derived tree d));
-      reading = λ z. k.reading (accepts v t w (zero-told (sized result_words result) result t (sym (ap (λ (x : After). x.number) h') ∙ z)));
-      refusal = λ n p r. h' ∙ ap (λ (ws : List ℕ). leaves (sized result_words result) result [] ws []) (w ∙ ap (λ (x : Answer Verdict). result_of (valued nothing x)) (k.refusal n p r));
-      unfit = λ g. rw g at h';
-    }
+  module _ (f g : Frame) (o : ◌≡◌ {A = Result Frame Fault} (frame_read frame) (Ok f)) {r : ℕ} {result' frame' words : List ℕ}
+      (h : record { number = r; result = result'; lent = [] } ≡ leaves true result [] words []) where
+    -- it began: the units are told, and the frame is the run's
+    pub run-began : (run : Execution) → HasRun block f budget g (Ok run) → words ≡ run_words (end_said run.end) run.units → frame' ≡ frame_words g →
+        KlemRun block frame budget result (record { number = r; result = result'; lent = frame' })
+    run-began run n w l =
+        let k : HasRun block (frame_at frame) budget g (Ok run) = rw (read-width frame f o).1 at n in
+        let wide = (read-width frame f o).0 in
+        record {
+          unknown = λ u. absurd (let z : true ≡ false = sym wide ∙ u in cc);
+          refusal = λ u x y e. absurd (let z : true ≡ false = k.stopped x y e in cc);
+          meaning = λ u tree d. beside h (w ∙ ap (λ (s : Outcome). run_words s.end s.units) (k.meaning tree d)) (l ∙ ap (λ (s : Outcome). frame_words s.frame) (k.meaning tree d));
+          unfit = λ u. absurd (let z : true ≡ false = sym fits ∙ u in cc);
+        }
 
-module _ (block frame : List ℕ) (budget : ℕ) (result : List ℕ) where
-  pub run-unfit : fits_frame result frame ≡ false → KlemRun block frame budget result (record { number = bad_slice; result = result; lent = frame })
-  run-unfit f = record { unknown = λ u. rw f; refusal = λ u n p h. rw f; meaning = λ u tree d. rw f; unfit = λ g. refl }
-
-  -- a width that is none is told, and nothing is run
-  pub run-unknown : {r : ℕ} {result' : List ℕ} (t : Reply) → fits_frame result frame ≡ true → is_width_bits (word_of_width frame) ≡ false →
-      record { number = r; result = result'; lent = [] } ≡ leaves (sized result_words result && true) result [] (words_of t) [] →
-      words_of t ≡ result_of (refuses bad_width (word_of_width frame)) → KlemRun block frame budget result (record { number = r; result = result'; lent = frame })
-  run-unknown t f e h w =
-      record {
-        unknown = λ u. tells _ result frame t f h w refl;
-        refusal = λ u n p g. absurd (let z : ◌≡◌ {A = ℕ} 0 1 = cc in omega arith);
-        meaning = λ u tree d. absurd (let z : ◌≡◌ {A = ℕ} 0 1 = cc in omega arith);
-        unfit = λ g. absurd (let z : ◌≡◌ {A = ℕ} 0 1 = cc in omega arith);
-      }
-
-  -- where the check refused, the frame is not written; where it ran, the units are told and the frame is the run's
-  pub run-left : {r : ℕ} {result' frame' : List ℕ} (t : Reply) (a : RunAnswer) (f : fits_frame result frame ≡ true) → is_width_bits (word_of_width frame) ≡ true →
-      (sized frame_size frame ≡ true → HasRun block (frame_at frame) budget a) →
-      record { number = r; result = result'; lent = [] } ≡ leaves (sized result_words result && true) result [] (words_of t) [] →
-      words_of t ≡ run_words (end_said a.end) a.units → frame' ≡ cond (sized frame_size frame && a.began) (frame_words a.frame) frame →
-      KlemRun block frame budget result (record { number = r; result = result'; lent = frame' })
-  run-left t a f g k h w l =
-      let s = (both (sized result_words result) (sized frame_size frame) f).1 in
-      let l' = rw s at l in
-      let n = k s in
-      record {
-        unknown = λ u. absurd (let z : ◌≡◌ {A = ℕ} 0 1 = cc in omega arith);
-        refusal = λ u x y e. tells _ result frame t f h (w ∙ ap (λ (o : Outcome). run_words o.end o.units) (n.refusal x y e)) (rw (n.stopped x y e) at l');
-        meaning = λ u tree d.
-            tells _ result frame t f h (w ∙ ap (λ (o : Outcome). run_words o.end o.units) (n.meaning tree d))
-            ((rw (n.started tree d) at l') ∙ ap (λ (o : Outcome). frame_words o.frame) (n.meaning tree d));
-        unfit = λ e. absurd (let z : ◌≡◌ {A = ℕ} 0 1 = cc in omega arith);
-      }
+    -- the check refused: the frame is as it was
+    pub run-refused : (e : AmlError) → HasRun block f budget g (Err e) → words ≡ result_of (refused e) → frame' ≡ frame →
+        KlemRun block frame budget result (record { number = r; result = result'; lent = frame' })
+    run-refused e n w l =
+        let k : HasRun block (frame_at frame) budget g (Err e) = rw (read-width frame f o).1 at n in
+        let wide = (read-width frame f o).0 in
+        record {
+          unknown = λ u. absurd (let z : true ≡ false = sym wide ∙ u in cc);
+          refusal = λ u x y s. beside h (w ∙ ap (λ (s : Outcome). run_words s.end s.units) (k.refusal x y s)) l;
+          meaning = λ u tree d. absurd (let z : false ≡ true = k.started tree d in cc);
+          unfit = λ u. absurd (let z : true ≡ false = sym fits ∙ u in cc);
+        }
 
 -- each of the two leaves one answer open
 pub one-klem-check : (block result : List ℕ) (x y : After) → KlemCheck block result x → KlemCheck block result y → x ≡ y

@@ -1,11 +1,13 @@
 -- A frame as KLEM_FRAME words: 15 flags, 0 where the cell is unset, then 15 numbers, then 32 or 64, their width; and the calls on it.
-use Rattle.std.specs.Prelude.{ℕ, ◌+◌, Bool, ◌&&◌, ◌||◌, not, cond, List, [], ◌∷◌, ◌++◌, map, eqb, ltb, take, drop, get_or}
+use Rattle.std.specs.Prelude.{ℕ, ◌+◌, Bool, ◌&&◌, ◌||◌, not, cond, List, [], ◌∷◌, ◌++◌, map, eqb, ltb, take, drop, get_or, Result, Ok, Err}
 use Rattle.pkg_length.specs.Refusal.{Answer, gives, refuses}
 use Rattle.grammar.specs.Grammar.{cells}
 use Rattle.statement.specs.Frames.{bits, fresh, held, wrote}
 use Rattle.statement.specs.declared.frame.Width.{Width}
 use Rattle.statement.specs.declared.frame.Width.TheVariants.{Bits32, Bits64}
 use Rattle.statement.specs.declared.frame.Frame.{Frame}
+use Rattle.klem_c.specs.declared.reply.Fault.{Fault}
+use Rattle.klem_c.specs.declared.reply.Fault.TheVariants.{BadWidth}
 use Rattle.klem_c.specs.Result.{bad_cell, bad_width, result_words, result_of, valued, one, flag, sized, After, leaves, answers}
 
 -- KLEM_FRAME: the words of a frame
@@ -31,6 +33,14 @@ width_from b = cond (eqb b 32) Bits32 Bits64
 abbrev pub frame_at : List ℕ → Frame
 frame_at ws = record { set = flags_at ws; val = take cells (drop cells ws); width = width_from (word_of_width ws) }
 
+-- the width of a number of bits, where there is one
+abbrev pub width_read : ℕ → Result Width Fault
+width_read n = cond (is_width_bits n) (Ok (width_from n)) (Err (BadWidth n))
+
+-- the frame that words hold, where their width is one
+abbrev pub frame_read : List ℕ → Result Frame Fault
+frame_read ws = cond (is_width_bits (word_of_width ws)) (Ok (frame_at ws)) (Err (BadWidth (word_of_width ws)))
+
 unfoldable pub frame_words : Frame → List ℕ
 frame_words f = map flag f.set ++ (f.val ++ (bits f.width ∷ []))
 
@@ -45,15 +55,15 @@ frames result frame words f = leaves (fits_frame result frame) result frame word
 abbrev pub widthed : {A : Type 0} → ℕ → Answer A → Answer A
 widthed n a = cond (is_width_bits n) a (refuses bad_width n)
 
-unfoldable pub klem_frame_new_after : List ℕ → ℕ → List ℕ → After
+abbrev pub klem_frame_new_after : List ℕ → ℕ → List ℕ → After
 klem_frame_new_after frame width result =
     leaves (fits_frame result frame) result frame (result_of (widthed width (gives []))) (cond (is_width_bits width) (frame_words (fresh (width_from width))) frame)
 
-unfoldable pub klem_frame_get_after : List ℕ → ℕ → List ℕ → After
+abbrev pub klem_frame_get_after : List ℕ → ℕ → List ℕ → After
 klem_frame_get_after frame cell result = answers (fits_frame result frame) result (valued one (widthed (word_of_width frame) (held (frame_at frame) cell)))
 
 -- a cell that is not there is refused, and the frame's words stay
-unfoldable pub klem_frame_set_after : List ℕ → ℕ → ℕ → List ℕ → After
+abbrev pub klem_frame_set_after : List ℕ → ℕ → ℕ → List ℕ → After
 klem_frame_set_after frame cell number result =
     leaves (fits_frame result frame) result frame
     (result_of (widthed (word_of_width frame) (cond (ltb cell cells) (gives []) (refuses bad_cell cell))))

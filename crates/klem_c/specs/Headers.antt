@@ -21,11 +21,11 @@ signature_number Ssdt = 1
 abbrev pub header_words : Header → List ℕ
 header_words h = signature_number h.signature ∷ h.revision ∷ h.end ∷ []
 
-unfoldable pub klem_header_read_after : List ℕ → List ℕ → After
+abbrev pub klem_header_read_after : List ℕ → List ℕ → After
 klem_header_read_after table result = answers (sized result_words result) result (valued header_words (header_in table))
 
 -- header and body go to the start of `out`, and the value is how many bytes they are
-unfoldable pub klem_header_write_after : List ℕ → ℕ → List ℕ → List ℕ → List ℕ → List ℕ → After
+abbrev pub klem_header_write_after : List ℕ → ℕ → List ℕ → List ℕ → List ℕ → List ℕ → After
 klem_header_write_after signature revision rest body out result =
     texts (sized result_words result && (sized letters signature && sized rest_length rest)) result out
     (wrote out (written (length out) signature revision rest body))

@@ -10,12 +10,12 @@ use Rattle.klem_c.specs.Paths.{texts}
 use Rattle.klem_c.specs.Tables.{edits}
 
 -- the image goes to the start of `out`, and the value is how many bytes it is
-unfoldable pub klem_image_write_after : List ℕ → List ℕ → List ℕ → After
+abbrev pub klem_image_write_after : List ℕ → List ℕ → List ℕ → After
 klem_image_write_after table out result = texts (sized result_words result) result out (wrote out (write_call first_edition limits (length out) table))
 
 -- levels without the root, bindings, objects
 abbrev pub counts_words : Counts → List ℕ
 counts_words c = c.levels ∷ c.bindings ∷ c.objects ∷ []
 
-unfoldable pub klem_image_read_after : List ℕ → List ℕ → List ℕ → After
+abbrev pub klem_image_read_after : List ℕ → List ℕ → List ℕ → After
 klem_image_read_after bytes table result = edits (sized result_words result) result table counts_words (read_call first_edition limits bytes table)

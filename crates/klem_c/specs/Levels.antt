@@ -21,7 +21,7 @@ packed_level r = r.depth * 2 ^ 40 + number_of_type r.typ * 2 ^ 32 + number_of_fo
 abbrev pub packed_levels : Answer (List LevelRecord) → Answer (List ℕ)
 packed_levels a = and_then a (λ rs. gives (map packed_level rs))
 
-unfoldable pub klem_levels_after : List ℕ → List ℕ → List ℕ → List ℕ → After
+abbrev pub klem_levels_after : List ℕ → List ℕ → List ℕ → List ℕ → After
 klem_levels_after table path list result =
     texts (fits_path result path) result list
     (wrote list (packed_levels (levels_call limits table (path_at path) (length list))))

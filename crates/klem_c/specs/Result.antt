@@ -1,7 +1,8 @@
 -- What a call leaves, as include/klem.h has it: the number that it returns, the words of its result, and what else it was lent to write.
 use Rattle.std.specs.Prelude.{ℕ, ◌-◌, Bool, cond, List, [], ◌∷◌, ◌++◌, eqb, length, get_or, replicate}
 use Rattle.pkg_length.specs.Refusal.{Answer, gives, refuses, and_then}
-use Rattle.klem_c.specs.declared.reply.Reply.{Reply}
+use Rattle.klem_c.specs.declared.reply.Fault.{Fault}
+use Rattle.klem_c.specs.declared.reply.Fault.TheVariants.{BadType, BadCell, BadWidth}
 
 -- The library's own numbers start at 1001, past any that the paper gives.
 
@@ -73,6 +74,8 @@ leaves fit result lent words new =
 abbrev pub answers : Bool → List ℕ → Answer (List ℕ) → After
 answers fit result a = leaves fit result [] (result_of a) []
 
--- what the code is about to write
-abbrev pub words_of : Reply → List ℕ
-words_of t = filled (t.number ∷ t.place ∷ t.first ∷ t.second ∷ t.third ∷ [])
+-- the library's own refusals
+abbrev pub fault_said : {A : Type 0} → Fault → Answer A
+fault_said BadType = refuses bad_type 0
+fault_said (BadCell cell) = refuses bad_cell cell
+fault_said (BadWidth width) = refuses bad_width width

@@ -4,33 +4,42 @@ ghost use Rattle.statement.specs.Frames.{bits, width_of};
 ghost use Rattle.klem_c.specs.Frames.{klem_frame_new_after, klem_frame_get_after, klem_frame_set_after};
 ghost use Rattle.klem_c.specs.Blocks.{KlemCheck, KlemRun};
 
+use crate::reply::Fault;
 use crate::{frames, reply, slices};
 use statement::frame;
-use statement::frame::Frame;
+use statement::frame::{CELLS, Frame};
 
 #[unsafe(no_mangle)]
 pub extern "C" fn klem_check(block: &[u8], res: &mut [u64]) -> u64
     ensures { KlemCheck block.now res.old (record { number = result; result = res.new; lent = [] }) }
 {
-    reply::tell(res, true, reply::verdict(grammar::check(block)))
+    let Some(res) = res.as_mut_array() else {
+        return slices::BAD_SLICE;
+    };
+    reply::tell(res, grammar::check(block))
 }
 
 #[unsafe(no_mangle)]
 pub extern "C" fn klem_run(block: &[u8], frame: &mut [u64], budget: u64, res: &mut [u64]) -> u64
     ensures { KlemRun block.now frame.old budget res.old (record { number = result; result = res.new; lent = frame.new }) }
 {
-    if slices::both(res.len() == slices::RESULT, frame.len() == slices::FRAME) {
-        let width = frames::width_word(frame);
-        if frames::is_width(width) {
-            let a = statement::run(block, frames::frame_in(frame), budget);
-            let end = a.end;
-            let left = a.frame;
-            frames::put_frame(frame, a.began, left);
-            return reply::tell(res, true, reply::end(end, a.units));
+    let Some(res) = res.as_mut_array() else {
+        return slices::BAD_SLICE;
+    };
+    let Some(frame) = frame.as_mut_array() else {
+        return slices::BAD_SLICE;
+    };
+    let mut f = match frames::frame_in(frame) {
+        Ok(f) => f,
+        Err(fault) => return reply::refuse(res, fault),
+    };
+    match statement::run(block, &mut f, budget) {
+        Ok(run) => {
+            frames::put_frame(frame, &f);
+            reply::write(res, reply::ran(run))
         }
-        return reply::tell(res, true, reply::numbered(reply::BAD_WIDTH, width));
+        Err(e) => reply::write(res, reply::refused(e)),
     }
-    slices::BAD_SLICE
 }
 
 // The width in bits that a DSDT's revision says.
@@ -38,7 +47,7 @@ pub extern "C" fn klem_run(block: &[u8], frame: &mut [u64], budget: u64, res: &m
 pub extern "C" fn klem_width_of(revision: u8) -> u64
     ensures { result ≡ bits (width_of revision) }
 {
-    frames::width_bits(frame::width_of(revision))
+    frame::width_of(revision).into()
 }
 
 // The same for an SSDT: its DSDT's.
@@ -46,32 +55,39 @@ pub extern "C" fn klem_width_of(revision: u8) -> u64
 pub extern "C" fn klem_width_of_ssdt(dsdt: u8, ssdt: u8) -> u64
     ensures { result ≡ bits (width_of dsdt) }
 {
-    frames::width_bits(frame::width_of_ssdt(dsdt, ssdt))
+    frame::width_of_ssdt(dsdt, ssdt).into()
 }
 
 #[unsafe(no_mangle)]
 pub extern "C" fn klem_frame_new(frame: &mut [u64], width: u64, res: &mut [u64]) -> u64
     ensures { record { number = result; result = res.new; lent = frame.new } ≡ klem_frame_new_after frame.old width res.old }
 {
-    let fit = frame.len() == slices::FRAME;
-    frames::put_frame(
-        frame,
-        slices::both(res.len() == slices::RESULT, frames::is_width(width)),
-        Frame::new(frames::width_in(width)),
-    );
-    reply::tell(res, fit, reply::in_width(width, reply::given(0, 0, 0)))
+    let Some(words) = frame.as_mut_array() else {
+        return slices::BAD_SLICE;
+    };
+    let Some(res) = res.as_mut_array() else {
+        return slices::BAD_SLICE;
+    };
+    match frames::width_in(width) {
+        Ok(width) => {
+            frames::put_frame(words, &Frame::new(width));
+            reply::tell(res, Ok(()))
+        }
+        Err(fault) => reply::refuse(res, fault),
+    }
 }
 
 #[unsafe(no_mangle)]
 pub extern "C" fn klem_frame_get(frame: &[u64], cell: usize, res: &mut [u64]) -> u64
     ensures { record { number = result; result = res.new; lent = [] } ≡ klem_frame_get_after frame.now cell res.old }
 {
-    let f = frames::frame_in(frame);
-    reply::tell(
-        res,
-        frame.len() == slices::FRAME,
-        reply::in_width(frames::width_word(frame), reply::cell(f.get(cell))),
-    )
+    let (Some(res), Some(frame)) = (res.as_mut_array(), frame.as_array()) else {
+        return slices::BAD_SLICE;
+    };
+    match frames::frame_in(frame) {
+        Ok(f) => reply::tell(res, f.get(cell)),
+        Err(fault) => reply::refuse(res, fault),
+    }
 }
 
 #[unsafe(no_mangle)]
@@ -83,14 +99,18 @@ pub extern "C" fn klem_frame_set(
 ) -> u64
     ensures { record { number = result; result = res.new; lent = frame.new } ≡ klem_frame_set_after frame.old cell number res.old }
 {
-    let f = frames::frame_in(frame);
-    let fit = frame.len() == slices::FRAME;
-    let width = frames::width_word(frame);
-    let there = slices::both(frames::is_width(width), cell < frames::CELLS);
-    frames::put_frame(
-        frame,
-        slices::both(res.len() == slices::RESULT, there),
-        f.with(cell, number),
-    );
-    reply::tell(res, fit, reply::in_width(width, reply::set_cell(cell)))
+    let Some(res) = res.as_mut_array() else {
+        return slices::BAD_SLICE;
+    };
+    let Some(frame) = frame.as_mut_array() else {
+        return slices::BAD_SLICE;
+    };
+    match frames::frame_in(frame) {
+        Ok(f) if cell < CELLS => {
+            frames::put_frame(frame, &f.with(cell, number));
+            reply::tell(res, Ok(()))
+        }
+        Ok(_) => reply::refuse(res, Fault::BadCell(cell)),
+        Err(fault) => reply::refuse(res, fault),
+    }
 }

@@ -1,117 +1,61 @@
 // Frames in words.
-ghost use Rattle.std.specs.Prelude.{◌≡◌, true, ◌&&◌, cond, ◌++◌, map, length, drop};
+ghost use Rattle.std.specs.Prelude.{◌≡◌, map, ◌++◌, drop};
 ghost use Rattle.grammar.specs.Grammar.{cells};
-ghost use Rattle.statement.specs.Frames.{bits};
-ghost use Rattle.klem_c.specs.Result.{flag, sized};
-ghost use Rattle.klem_c.specs.Frames.{frame_size, flags_at, is_width_bits, width_from, word_of_width, frame_at, frame_words};
+ghost use Rattle.klem_c.specs.Result.{flag};
+ghost use Rattle.klem_c.specs.Frames.{width_read, flags_at, frame_read, frame_words};
 
-use crate::slices;
-use statement::frame::{Frame, Width};
-
-pub(crate) const CELLS: usize = 15;
+use crate::reply::Fault;
+use crate::slices::FRAME;
+use statement::frame::{CELLS, Frame, Width};
 
 // Behind the flags and the numbers.
 const WIDTH_AT: usize = 30;
 
-fn copy(dst: &mut [u64], src: &[u64])
-    requires { length dst.old ≡ length src.now }
-    ensures { dst.new ≡ src.now }
+// Its refusal is this library's own, 1004, and so it is no `TryFrom` of statement's.
+pub(crate) fn width_in(bits: u64) -> Result<Width, Fault>
+    ensures { result ≡ width_read bits }
 {
-    let mut i = 0;
-    while i < src.len() {
-        dst[i] = src[i];
-        i += 1;
+    match bits {
+        32 => Ok(Width::Bits32),
+        64 => Ok(Width::Bits64),
+        _ => Err(Fault::BadWidth(bits)),
     }
 }
 
 // Anything but 0 is set.
-fn flags_in(words: &[u64]) -> [bool; 15]
-    requires { length words.now ≡ frame_size }
+fn flags_in(words: &[u64; FRAME]) -> [bool; CELLS]
     ensures { result ≡ flags_at words.now }
 {
-    let mut set = [false; 15];
-    let mut i = 0;
-    while i < 15 {
-        set[i] = words[i] != 0;
-        i += 1;
+    let mut set = [false; CELLS];
+    for (cell, word) in words[..CELLS].iter().enumerate() {
+        set[cell] = *word != 0;
     }
     set
 }
 
-fn put_flags(words: &mut [u64], set: [bool; 15])
-    requires { length words.old ≡ frame_size }
-    ensures { words.new ≡ map flag set ++ drop cells words.old }
+fn put_flags(words: &mut [u64; FRAME], set: &[bool; CELLS])
+    ensures { words.new ≡ map flag set.now ++ drop cells words.old }
 {
-    let mut i = 0;
-    while i < 15 {
-        words[i] = set[i] as u64;
-        i += 1;
+    for (cell, flag) in set.iter().enumerate() {
+        words[cell] = u64::from(*flag);
     }
 }
 
-pub(crate) fn is_width(n: u64) -> bool
-    ensures { result ≡ is_width_bits n }
+// The frame that words hold.
+pub(crate) fn frame_in(words: &[u64; FRAME]) -> Result<Frame, Fault>
+    ensures { result ≡ frame_read words.now }
 {
-    if n == 32 {
-        return true;
-    }
-    n == 64
+    let width = width_in(words[WIDTH_AT])?;
+    let mut val = [0; CELLS];
+    val.copy_from_slice(&words[CELLS..WIDTH_AT]);
+    let set = flags_in(words);
+    Ok(Frame { set, val, width })
 }
 
-// 32 or 64, where it is one.
-pub(crate) fn width_in(n: u64) -> Width
-    ensures { result ≡ width_from n }
+pub(crate) fn put_frame(words: &mut [u64; FRAME], frame: &Frame)
+    ensures { words.new ≡ frame_words frame.now }
 {
-    if n == 32 {
-        return Width::Bits32;
-    }
-    Width::Bits64
-}
-
-pub(crate) fn width_bits(w: Width) -> u64
-    ensures { result ≡ bits w }
-{
-    match w {
-        Width::Bits32 => 32,
-        Width::Bits64 => 64,
-    }
-}
-
-// The word for the width, where the words have their length.
-pub(crate) fn width_word(words: &[u64]) -> u64
-    ensures { sized frame_size words.now ≡ true → result ≡ word_of_width words.now }
-{
-    if words.len() == slices::FRAME {
-        return words[WIDTH_AT];
-    }
-    0
-}
-
-// The frame that words hold, where they have their length.
-pub(crate) fn frame_in(words: &[u64]) -> Frame
-    ensures { sized frame_size words.now ≡ true → result ≡ frame_at words.now }
-{
-    let mut val = [0; 15];
-    if words.len() == slices::FRAME {
-        copy(&mut val, &words[15..30]);
-        let set = flags_in(words);
-        let width = width_in(words[WIDTH_AT]);
-        return Frame { set, val, width };
-    }
-    Frame::new(Width::Bits64)
-}
-
-// Writes the frame where that is wanted and its words have their length.
-pub(crate) fn put_frame(words: &mut [u64], wanted: bool, frame: Frame)
-    ensures { words.new ≡ cond (sized frame_size words.old && wanted) (frame_words frame) words.old }
-{
-    if words.len() == slices::FRAME {
-        if wanted {
-            let set = frame.set;
-            let width = frame.width;
-            words[WIDTH_AT] = width_bits(width);
-            put_flags(words, set);
-            copy(&mut words[15..30], &frame.val);
-        }
-    }
+    put_flags(words, &frame.set);
+    words[CELLS..WIDTH_AT].copy_from_slice(&frame.val);
+    words[WIDTH_AT] = frame.width.into();
 }

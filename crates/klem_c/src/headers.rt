@@ -8,7 +8,10 @@ use crate::{reply, slices};
 pub extern "C" fn klem_header_read(table: &[u8], res: &mut [u64]) -> u64
     ensures { record { number = result; result = res.new; lent = [] } ≡ klem_header_read_after table.now res.old }
 {
-    reply::tell(res, true, reply::header(header::read(table)))
+    let Some(res) = res.as_mut_array() else {
+        return slices::BAD_SLICE;
+    };
+    reply::tell(res, header::read(table))
 }
 
 #[unsafe(no_mangle)]
@@ -22,17 +25,12 @@ pub extern "C" fn klem_header_write(
 ) -> u64
     ensures { record { number = result; result = res.new; lent = out.new } ≡ klem_header_write_after signature.now revision rest.now body.now out.old res.old }
 {
-    if slices::both(
-        res.len() == slices::RESULT,
-        slices::both(
-            signature.len() == slices::LETTERS,
-            rest.len() == slices::REST,
-        ),
-    ) {
-        let letters = slices::four_in(signature);
-        let others = slices::rest_in(rest);
-        let a = header::write(&letters, revision, &others, body, out);
-        return reply::tell(res, true, reply::written(a));
-    }
-    slices::BAD_SLICE
+    let (Some(res), Some(letters), Some(rest)) = (
+        res.as_mut_array(),
+        signature.as_array(),
+        rest.as_array(),
+    ) else {
+        return slices::BAD_SLICE;
+    };
+    reply::tell(res, header::write(letters, revision, rest, body, out))
 }

@@ -2,27 +2,11 @@
 ghost use Rattle.std.specs.Prelude.{◌≡◌, []};
 ghost use Rattle.table.specs.Limits.{limits};
 ghost use Rattle.table.specs.Memory.{is_well_formed};
-ghost use Rattle.klem_c.specs.Tables.{type_of_level, klem_table_new_after, klem_add_level_after, klem_remove_level_after, klem_add_value_after, klem_add_value_at_resolved_path_after, klem_add_alias_at_resolved_path_after, klem_get_after, klem_set_after, klem_get_handle_after, klem_get_by_path_after, klem_set_by_path_after, klem_search_after, klem_search_for_level_after};
+ghost use Rattle.klem_c.specs.Tables.{klem_table_new_after, klem_add_level_after, klem_remove_level_after, klem_add_value_after, klem_add_value_at_resolved_path_after, klem_add_alias_at_resolved_path_after, klem_get_after, klem_set_after, klem_get_handle_after, klem_get_by_path_after, klem_set_by_path_after, klem_search_after, klem_search_for_level_after};
 
+use crate::reply::Fault;
 use crate::{reply, slices};
 use namespace::{AmlHandle, LevelType};
-
-// What a call returns where a level's type is over 5.
-const BAD_TYPE: u64 = 1002;
-
-// 0 to 5, as klem.h numbers them.
-fn level_type(typ: u64) -> LevelType
-    ensures { result ≡ type_of_level typ }
-{
-    match typ {
-        0 => LevelType::Scope,
-        1 => LevelType::Device,
-        2 => LevelType::Processor,
-        3 => LevelType::PowerResource,
-        4 => LevelType::ThermalZone,
-        _ => LevelType::MethodLocals,
-    }
-}
 
 #[unsafe(no_mangle)]
 pub extern "C" fn klem_well_formed(table: &[u64]) -> bool
@@ -35,47 +19,43 @@ pub extern "C" fn klem_well_formed(table: &[u64]) -> bool
 pub extern "C" fn klem_table_new(table: &mut [u64], res: &mut [u64]) -> u64
     ensures { record { number = result; result = res.new; lent = table.new } ≡ klem_table_new_after table.old res.old }
 {
-    if res.len() == slices::RESULT {
-        let a = namespace::new(table);
-        return reply::tell(res, true, reply::edit(a));
-    }
-    slices::BAD_SLICE
+    let Some(res) = res.as_mut_array() else {
+        return slices::BAD_SLICE;
+    };
+    reply::tell(res, namespace::new(table))
 }
 
 #[unsafe(no_mangle)]
 pub extern "C" fn klem_add_level(table: &mut [u64], path: &[u8], typ: u64, res: &mut [u64]) -> u64
     ensures { record { number = result; result = res.new; lent = table.new } ≡ klem_add_level_after table.old path.now typ res.old }
 {
-    if slices::both(res.len() == slices::RESULT, path.len() == slices::PATH) {
-        if 5 < typ {
-            return reply::tell(res, true, reply::numbered(BAD_TYPE, 0));
-        }
-        let a = namespace::add_level(table, slices::path_in(path), level_type(typ));
-        return reply::tell(res, true, reply::edit(a));
-    }
-    slices::BAD_SLICE
+    let (Some(res), Some(path)) = (res.as_mut_array(), slices::path_in(path)) else {
+        return slices::BAD_SLICE;
+    };
+    let Ok(typ) = LevelType::try_from(typ) else {
+        return reply::refuse(res, Fault::BadType);
+    };
+    reply::tell(res, namespace::add_level(table, path, typ))
 }
 
 #[unsafe(no_mangle)]
 pub extern "C" fn klem_remove_level(table: &mut [u64], path: &[u8], res: &mut [u64]) -> u64
     ensures { record { number = result; result = res.new; lent = table.new } ≡ klem_remove_level_after table.old path.now res.old }
 {
-    if slices::both(res.len() == slices::RESULT, path.len() == slices::PATH) {
-        let a = namespace::remove_level(table, slices::path_in(path));
-        return reply::tell(res, true, reply::edit(a));
-    }
-    slices::BAD_SLICE
+    let (Some(res), Some(path)) = (res.as_mut_array(), slices::path_in(path)) else {
+        return slices::BAD_SLICE;
+    };
+    reply::tell(res, namespace::remove_level(table, path))
 }
 
 #[unsafe(no_mangle)]
 pub extern "C" fn klem_add_value(table: &mut [u64], path: &[u8], value: u64, res: &mut [u64]) -> u64
     ensures { record { number = result; result = res.new; lent = table.new } ≡ klem_add_value_after table.old path.now value res.old }
 {
-    if slices::both(res.len() == slices::RESULT, path.len() == slices::PATH) {
-        let a = namespace::add_value(table, slices::path_in(path), value);
-        return reply::tell(res, true, reply::handle(a));
-    }
-    slices::BAD_SLICE
+    let (Some(res), Some(path)) = (res.as_mut_array(), slices::path_in(path)) else {
+        return slices::BAD_SLICE;
+    };
+    reply::tell(res, namespace::add_value(table, path, value))
 }
 
 #[unsafe(no_mangle)]
@@ -88,19 +68,17 @@ pub extern "C" fn klem_add_value_at_resolved_path(
 ) -> u64
     ensures { record { number = result; result = res.new; lent = table.new } ≡ klem_add_value_at_resolved_path_after table.old path.now scope.now value res.old }
 {
-    if slices::both(
-        res.len() == slices::RESULT,
-        slices::both(path.len() == slices::PATH, scope.len() == slices::PATH),
-    ) {
-        let a = namespace::add_value_at_resolved_path(
-            table,
-            slices::path_in(path),
-            slices::path_in(scope),
-            value,
-        );
-        return reply::tell(res, true, reply::handle(a));
-    }
-    slices::BAD_SLICE
+    let (Some(res), Some(path), Some(scope)) = (
+        res.as_mut_array(),
+        slices::path_in(path),
+        slices::path_in(scope),
+    ) else {
+        return slices::BAD_SLICE;
+    };
+    reply::tell(
+        res,
+        namespace::add_value_at_resolved_path(table, path, scope, value),
+    )
 }
 
 #[unsafe(no_mangle)]
@@ -113,66 +91,58 @@ pub extern "C" fn klem_add_alias_at_resolved_path(
 ) -> u64
     ensures { record { number = result; result = res.new; lent = table.new } ≡ klem_add_alias_at_resolved_path_after table.old path.now scope.now target.now res.old }
 {
-    if slices::both(
-        res.len() == slices::RESULT,
-        slices::both(
-            path.len() == slices::PATH,
-            slices::both(scope.len() == slices::PATH, target.len() == slices::PATH),
-        ),
-    ) {
-        let a = namespace::add_alias_at_resolved_path(
-            table,
-            slices::path_in(path),
-            slices::path_in(scope),
-            slices::path_in(target),
-        );
-        return reply::tell(res, true, reply::handle(a));
-    }
-    slices::BAD_SLICE
+    let (Some(res), Some(path), Some(scope), Some(target)) = (
+        res.as_mut_array(),
+        slices::path_in(path),
+        slices::path_in(scope),
+        slices::path_in(target),
+    ) else {
+        return slices::BAD_SLICE;
+    };
+    reply::tell(
+        res,
+        namespace::add_alias_at_resolved_path(table, path, scope, target),
+    )
 }
 
 #[unsafe(no_mangle)]
 pub extern "C" fn klem_get(table: &[u64], handle: u32, res: &mut [u64]) -> u64
     ensures { record { number = result; result = res.new; lent = [] } ≡ klem_get_after table.now handle res.old }
 {
-    reply::tell(
-        res,
-        true,
-        reply::value(namespace::get(table, AmlHandle(handle))),
-    )
+    let Some(res) = res.as_mut_array() else {
+        return slices::BAD_SLICE;
+    };
+    reply::tell(res, namespace::get(table, AmlHandle(handle)))
 }
 
 #[unsafe(no_mangle)]
 pub extern "C" fn klem_set(table: &mut [u64], handle: u32, value: u64, res: &mut [u64]) -> u64
     ensures { record { number = result; result = res.new; lent = table.new } ≡ klem_set_after table.old handle value res.old }
 {
-    if res.len() == slices::RESULT {
-        let a = namespace::set(table, AmlHandle(handle), value);
-        return reply::tell(res, true, reply::edit(a));
-    }
-    slices::BAD_SLICE
+    let Some(res) = res.as_mut_array() else {
+        return slices::BAD_SLICE;
+    };
+    reply::tell(res, namespace::set(table, AmlHandle(handle), value))
 }
 
 #[unsafe(no_mangle)]
 pub extern "C" fn klem_get_handle(table: &[u64], path: &[u8], res: &mut [u64]) -> u64
     ensures { record { number = result; result = res.new; lent = [] } ≡ klem_get_handle_after table.now path.now res.old }
 {
-    reply::tell(
-        res,
-        path.len() == slices::PATH,
-        reply::handle(namespace::get_handle(table, slices::path_in(path))),
-    )
+    let (Some(res), Some(path)) = (res.as_mut_array(), slices::path_in(path)) else {
+        return slices::BAD_SLICE;
+    };
+    reply::tell(res, namespace::get_handle(table, path))
 }
 
 #[unsafe(no_mangle)]
 pub extern "C" fn klem_get_by_path(table: &[u64], path: &[u8], res: &mut [u64]) -> u64
     ensures { record { number = result; result = res.new; lent = [] } ≡ klem_get_by_path_after table.now path.now res.old }
 {
-    reply::tell(
-        res,
-        path.len() == slices::PATH,
-        reply::value(namespace::get_by_path(table, slices::path_in(path))),
-    )
+    let (Some(res), Some(path)) = (res.as_mut_array(), slices::path_in(path)) else {
+        return slices::BAD_SLICE;
+    };
+    reply::tell(res, namespace::get_by_path(table, path))
 }
 
 #[unsafe(no_mangle)]
@@ -184,11 +154,10 @@ pub extern "C" fn klem_set_by_path(
 ) -> u64
     ensures { record { number = result; result = res.new; lent = table.new } ≡ klem_set_by_path_after table.old path.now value res.old }
 {
-    if slices::both(res.len() == slices::RESULT, path.len() == slices::PATH) {
-        let a = namespace::set_by_path(table, slices::path_in(path), value);
-        return reply::tell(res, true, reply::edit(a));
-    }
-    slices::BAD_SLICE
+    let (Some(res), Some(path)) = (res.as_mut_array(), slices::path_in(path)) else {
+        return slices::BAD_SLICE;
+    };
+    reply::tell(res, namespace::set_by_path(table, path, value))
 }
 
 #[unsafe(no_mangle)]
@@ -201,16 +170,17 @@ pub extern "C" fn klem_search(
 ) -> u64
     ensures { record { number = result; result = res.new; lent = out.new } ≡ klem_search_after table.now path.now scope.now out.old res.old }
 {
-    let a = namespace::search(table, slices::path_in(path), slices::path_in(scope));
-    let said = a.said;
-    let name = a.name;
-    reply::tell_path(
-        out,
-        res,
-        slices::both(path.len() == slices::PATH, scope.len() == slices::PATH),
-        name,
-        reply::found(said),
-    )
+    let Some(res) = res.as_mut_array() else {
+        return slices::BAD_SLICE;
+    };
+    let (Some(out), Some(path), Some(scope)) = (
+        out.as_mut_array(),
+        slices::path_in(path),
+        slices::path_in(scope),
+    ) else {
+        return slices::BAD_SLICE;
+    };
+    reply::tell_path(out, res, namespace::search(table, path, scope))
 }
 
 #[unsafe(no_mangle)]
@@ -223,14 +193,15 @@ pub extern "C" fn klem_search_for_level(
 ) -> u64
     ensures { record { number = result; result = res.new; lent = out.new } ≡ klem_search_for_level_after table.now path.now scope.now out.old res.old }
 {
-    let a = namespace::search_for_level(table, slices::path_in(path), slices::path_in(scope));
-    let said = a.said;
-    let name = a.name;
-    reply::tell_path(
-        out,
-        res,
-        slices::both(path.len() == slices::PATH, scope.len() == slices::PATH),
-        name,
-        reply::level(said),
-    )
+    let Some(res) = res.as_mut_array() else {
+        return slices::BAD_SLICE;
+    };
+    let (Some(out), Some(path), Some(scope)) = (
+        out.as_mut_array(),
+        slices::path_in(path),
+        slices::path_in(scope),
+    ) else {
+        return slices::BAD_SLICE;
+    };
+    reply::tell_path(out, res, namespace::search_for_level(table, path, scope))
 }

@@ -5,17 +5,17 @@ use mathlib.Core.List.{List, ◌∷◌, ◌++◌}
 use Prim.Native.Nat.{ℕ, zero, suc, ◌+◌, ◌*◌, ◌≤◌, ◌<◌}
 use native.Mathlib.Omega.{arith}
 use lib.Dec.{eqb}
-use lib.ListN.{length, get_or, drop}
+use lib.ListN.{length, drop}
 use borrow.Author.Tests.{eq-eqb, ne_eqb, le-leb, lt-leb}
-use Rattle.pkg_length.specs.Refusal.{gives, refuses, and_then}
+use Rattle.pkg_length.specs.Refusal.{Answer, gives, refuses, and_then}
 use Rattle.pkg_length.proofs.Answers.{gives_same, then-gives, then-refuses}
 use Rattle.name_object.specs.Component.{Component}
 use Rattle.name_object.specs.Memory.{Named, Told, told, name_of}
 use Rattle.name_object.specs.Name.{byte_at, segment, segments, run_at, name_path_answer, prefix_of, spelled, judged, name_string_answer}
-use Rattle.name_object.specs.Inside.{cut, segments_end, counted_at, name_at}
+use Rattle.name_object.specs.Inside.{cut, segments_end, name_at}
 use Rattle.name_object.specs.declared.Run.{Run}
 use Rattle.name_object.specs.declared.AmlName.{AmlName}
-use Rattle.name_object.proofs.Reading.{byte-here, byte-end, byte-was, seg-was}
+use Rattle.name_object.proofs.Reading.{byte-was, seg-was}
 use Rattle.name_object.proofs.Building.{cut-none, cut-cons, whole, length_whole}
 
 abbrev pub run : ℕ → ℕ → Run
@@ -24,34 +24,30 @@ run p n = record { from = p; count = n }
 -- ## Where the segments start
 
 module _ (xs : List ℕ) (p : ℕ) where
-  pub counted-end : length xs ≤ p → refuses 1 (length xs) ≡ counted_at xs p
-  unfolding counted_at
-  counted-end h = rw (byte-end xs p h)
-
-  pub counted-read : p < length xs → gives (run (p + 1) (get_or xs p 0)) ≡ counted_at xs p
-  unfolding counted_at
-  counted-read h = rw (byte-here xs p h)
-
-  pub path-end : length xs ≤ p → refuses 1 (length xs) ≡ run_at xs p
+  pub path-none : (n q : ℕ) → refuses n q ≡ byte_at xs p → refuses n q ≡ run_at xs p
   unfolding run_at
-  path-end h = rw (byte-end xs p h)
+  path-none n q h = rw (← h)
 
-  module _ (h : p < length xs) where
-    pub path-null : get_or xs p 0 ≡ 0x00 → gives (run (p + 1) 0) ≡ run_at xs p
+  module _ (b : ℕ) (h : gives b ≡ byte_at xs p) where
+    pub path-null : b ≡ 0x00 → gives (run (p + 1) 0) ≡ run_at xs p
     unfolding run_at
-    path-null e = rw (byte-here xs p h, e)
+    path-null e = rw (← h, e)
 
-    pub path-dual : get_or xs p 0 ≡ 0x2E → gives (run (p + 1) 2) ≡ run_at xs p
+    pub path-dual : b ≡ 0x2E → gives (run (p + 1) 2) ≡ run_at xs p
     unfolding run_at
-    path-dual e = rw (byte-here xs p h, e)
+    path-dual e = rw (← h, e)
 
-    pub path-multi : get_or xs p 0 ≡ 0x2F → counted_at xs (p + 1) ≡ run_at xs p
-    unfolding counted_at run_at
-    path-multi e = let s : p + 1 + 1 ≡ p + 2 = omega arith in rw (byte-here xs p h, e, s)
-
-    pub path-one : (get_or xs p 0 ≡ 0x00 → ⊥) → (get_or xs p 0 ≡ 0x2E → ⊥) → (get_or xs p 0 ≡ 0x2F → ⊥) → gives (run p 1) ≡ run_at xs p
+    pub path-short : b ≡ 0x2F → (n q : ℕ) → refuses n q ≡ byte_at xs (p + 1) → refuses n q ≡ run_at xs p
     unfolding run_at
-    path-one e₁ e₂ e₃ = rw (byte-here xs p h, ne_eqb _ _ e₁, ne_eqb _ _ e₂, ne_eqb _ _ e₃)
+    path-short e n q k = rw (← h, e, ← k)
+
+    pub path-multi : b ≡ 0x2F → (n : ℕ) → gives n ≡ byte_at xs (p + 1) → gives (run (p + 2) n) ≡ run_at xs p
+    unfolding run_at
+    path-multi e n k = rw (← h, e, ← k)
+
+    pub path-one : (b ≡ 0x00 → ⊥) → (b ≡ 0x2E → ⊥) → (b ≡ 0x2F → ⊥) → gives (run p 1) ≡ run_at xs p
+    unfolding run_at
+    path-one e₁ e₂ e₃ = rw (← h, ne_eqb _ _ e₁, ne_eqb _ _ e₂, ne_eqb _ _ e₃)
 
 -- behind p, and inside
 pub run-starts : (xs : List ℕ) (p : ℕ) (r : Run) → gives r ≡ run_at xs p → (p ≤ r.from) × (r.from ≤ length xs)
@@ -119,9 +115,9 @@ module _ (limit : ℕ) (xs : List ℕ) (pre p n : ℕ) (is : pre ≡ length (pre
   named-over h = judged-over limit (name_at xs p n) (omega (arith, long))
 
   pub named-whole : (m : AmlName) → m ≡ name_of limit (whole xs p n) → (pre + n ≡ 0 → ⊥) → pre + n ≤ limit →
-      ◌≡◌ {A = Told ℕ} (record { memory = m; said = gives (p + 4 * n) }) (told limit (judged limit (name_at xs p n)))
+      ◌≡◌ {A = Answer (Told ℕ)} (gives (record { memory = m; value = p + 4 * n })) (told limit (judged limit (name_at xs p n)))
   named-whole m b z h =
-      (λ i. record { memory = b i; said = gives (p + 4 * n) }) ∙ ap (told limit) (judged-whole limit (name_at xs p n) (λ e. z (omega (arith, long))) (omega (arith, long)))
+      (λ i. gives (record { memory = b i; value = p + 4 * n })) ∙ ap (told limit) (judged-whole limit (name_at xs p n) (λ e. z (omega (arith, long))) (omega (arith, long)))
 
 -- ## The whole name, one law for each way that reading ends
 

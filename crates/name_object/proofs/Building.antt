@@ -66,8 +66,5 @@ module _ (limit : ℕ) (xs : List ℕ) (pre from n : ℕ) (name : AmlName) (is :
       (push-next limit (whole xs from n) (pre + j) _ _ _ _ (omega (arith, length_whole xs from n)) (omega (arith, length_whole xs from n))
       (rw (is, get_or-append-add (prefix_of xs) (cut n (drop from xs)) j up, cut_at n j from xs h)))
 
-  pub build-half : (i : ℕ) → pre ≤ i → i ≤ pre → name ≡ name_of limit (take i (whole xs from n)) → name ≡ name_of limit (take (pre + 0) (whole xs from n))
-  build-half i h l e = let s : pre + 0 ≡ i = omega arith in rw s e
-
   pub build-done : (j : ℕ) → n ≤ j → name ≡ name_of limit (take (pre + j) (whole xs from n)) → name ≡ name_of limit (whole xs from n)
   build-done j h e = rw (take_all (pre + j) (whole xs from n) (omega (arith, length_whole xs from n))) at e

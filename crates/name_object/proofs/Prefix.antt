@@ -1,43 +1,38 @@
 -- What stands before a NamePath: a loop over the `^`s counts them, and each byte of a prefix spells one component.
-use mathlib.Core.Path.{◌≡◌, refl, sym, ap}
+use mathlib.Core.Path.{◌≡◌, refl, sym, ◌∙◌, ap}
 use mathlib.Core.Bool.{Bool, true, false, cond}
 use mathlib.Core.List.{List, [], ◌∷◌}
 use Prim.Native.Nat.{ℕ, zero, suc, ◌+◌, ◌≤◌, ◌<◌}
 use native.Mathlib.Omega.{arith}
 use lib.Dec.{eqb}
-use lib.ListN.{length, get_or, drop, drop_of_length-le}
-use lib.Seq.{drop-cons}
+use lib.ListN.{length, get_or}
+use Rattle.std.specs.List.{prefix_len}
 use borrow.Author.Tests.{eq-eqb, ne_eqb, eqb-true}
 use Rattle.name_object.specs.Component.{root, up, spell_one}
 use Rattle.name_object.specs.Name.{carets, prefix_of}
 
-module _ (xs : List ℕ) (k : ℕ) where
-  pub carets-end : length xs ≤ k → k + length (carets (drop k xs)) ≡ k
-  unfolding carets
-  carets-end h = rw (drop_of_length-le xs h) (omega arith)
+-- the `^`s that are counted
+carets-many : (xs : List ℕ) → (prefix_len (λ b. eqb b 0x5E) xs ≡ length (carets xs)) × (length (carets xs) ≤ length xs)
+unfolding carets
+carets-many [] = (refl, omega arith)
+carets-many (x ∷ xs) = go (carets-many xs) (eqb x 0x5E)
+  where
+    go : (prefix_len (λ b. eqb b 0x5E) xs ≡ length (carets xs)) × (length (carets xs) ≤ length xs) → (t : Bool) → (cond t (1 + prefix_len (λ b. eqb b 0x5E) xs) 0 ≡ length (cond t (up ∷ carets xs) [])) × (length (cond t (up ∷ carets xs) []) ≤ suc (length xs))
+    go k true = (omega (arith, k.0), omega (arith, k.1))
+    go k false = (refl, omega arith)
 
-  pub carets-stop : k < length xs → (get_or xs k 0 ≡ 0x5E → ⊥) → k + length (carets (drop k xs)) ≡ k
-  unfolding carets
-  carets-stop h e = rw (drop-cons xs k 0 h, ne_eqb _ _ e) (omega arith)
+pub no-root : (xs : List ℕ) → length xs ≡ 0 → get_or xs 0 0 ≡ 0x5C → ⊥
+no-root [] e h = omega arith
+no-root (x ∷ xs) e h = omega arith
 
-  pub carets-turn : k < length xs → get_or xs k 0 ≡ 0x5E → (k + 1) + length (carets (drop (k + 1) xs)) ≡ k + length (carets (drop k xs))
-  unfolding carets
-  carets-turn h e =
-      let s : k + 1 ≡ suc k = omega arith in
-      rw (drop-cons xs k 0 h, eq-eqb _ _ e, s) (omega arith)
-
-pub prefix-none : (xs : List ℕ) → length xs ≡ 0 → 0 ≡ length (prefix_of xs)
-unfolding prefix_of carets
-prefix-none [] e = refl
-prefix-none (x ∷ xs) e = absurd (omega arith)
-
-pub prefix-root : (xs : List ℕ) → get_or xs 0 0 ≡ 0x5C → 1 ≡ length (prefix_of xs)
+pub prefix-root : (xs : List ℕ) → get_or xs 0 0 ≡ 0x5C → (1 ≡ length (prefix_of xs)) × (1 ≤ length xs)
 unfolding prefix_of
-prefix-root xs e = rw (eq-eqb _ _ e)
+prefix-root [] e = absurd (omega arith)
+prefix-root (x ∷ xs) e = (rw (eq-eqb _ _ e), omega arith)
 
-pub prefix-carets : (xs : List ℕ) → (get_or xs 0 0 ≡ 0x5C → ⊥) → 0 + length (carets (drop 0 xs)) ≡ length (prefix_of xs)
+pub prefix-carets : (xs : List ℕ) (n : ℕ) → (get_or xs 0 0 ≡ 0x5C → ⊥) → n ≡ prefix_len (λ b. eqb b 0x5E) xs → (n ≡ length (prefix_of xs)) × (n ≤ length xs)
 unfolding prefix_of
-prefix-carets xs e = rw (ne_eqb _ _ e) (omega arith)
+prefix-carets xs n e h = let k = carets-many xs in rw (ne_eqb _ _ e) (h ∙ k.0, omega (arith, h, k.0, k.1))
 
 -- the bytes of a prefix are the bytes read
 carets-byte : (xs : List ℕ) (i : ℕ) → i < length (carets xs) → spell_one (get_or (carets xs) i up) ≡ get_or xs i 0 ∷ 0 ∷ 0 ∷ 0 ∷ []

@@ -42,9 +42,9 @@ module _ (ok : ℕ → Bool) (xs : List ℕ) (p : ℕ) where
   unfolding char
   char-bad h e = rw (byte-here xs p h, e)
 
-  pub char-end : length xs ≤ p → char ok xs p ≡ refuses 1 (length xs)
+  char-none : (n q : ℕ) → refuses n q ≡ byte_at xs p → char ok xs p ≡ refuses n q
   unfolding char
-  char-end h = rw (byte-end xs p h)
+  char-none n q h = rw (← h)
 
   pub char-was : (b : ℕ) → char ok xs p ≡ gives b → (p < length xs) × (ok (get_or xs p 0) ≡ true) × (get_or xs p 0 ≡ b)
   unfolding char
@@ -74,10 +74,10 @@ module _ (xs : List ℕ) (p : ℕ) where
   of-bad zero h e = let z : p + 0 ≡ p = omega arith in rw z (char-bad lead_ok xs p (omega arith) (rw z at e))
   of-bad (suc k) h e = char-bad char_ok xs (p + suc k) h (rw (ne_eqb (suc k) 0 (λ z. omega arith)) at e)
 
-  of_end : (k : ℕ) → length xs ≤ p + k → char_of_number xs p k ≡ refuses 1 (length xs)
+  of_none : (k n q : ℕ) → refuses n q ≡ byte_at xs (p + k) → char_of_number xs p k ≡ refuses n q
   unfolding char_of_number
-  of_end zero h = char-end lead_ok xs p (omega arith)
-  of_end (suc k) h = char-end char_ok xs (p + suc k) h
+  of_none zero n q h = let z : p + 0 ≡ p = omega arith in char-none lead_ok xs p n q (rw z at h)
+  of_none (suc k) n q h = char-none char_ok xs (p + suc k) n q h
 
 -- ## A segment
 
@@ -90,9 +90,15 @@ module _ (xs : List ℕ) (p : ℕ) where
   pub begun-none : p ≤ length xs → Begun xs p 0
   begun-none h = record { inside = omega arith; good = λ j l. absurd (omega arith) }
 
-  pub begun_more : (k : ℕ) → Begun xs p k → p + k < length xs → seg_char k (get_or xs (p + k) 0) ≡ true → Begun xs p (k + 1)
-  begun_more k b h e = record { inside = omega arith; good = λ j l. go j l (eqb j k) refl }
+  pub begun_more : (k : ℕ) → Begun xs p k → (x : ℕ) → gives x ≡ byte_at xs (p + k) → seg_char k x ≡ true → Begun xs p (k + 1)
+  begun_more k b x h ok = record { inside = omega (arith, w.0); good = λ j l. go j l (eqb j k) refl }
     where
+      w : (p + k < length xs) × (get_or xs (p + k) 0 ≡ x)
+      w = byte-was xs (p + k) x (sym h)
+
+      e : seg_char k (get_or xs (p + k) 0) ≡ true
+      e = rw w.1 ok
+
       go : (j : ℕ) → j < k + 1 → (t : Bool) → eqb j k ≡ t → seg_char j (get_or xs (p + j) 0) ≡ true
       go j l true q = let s : j ≡ k = eqb-true j k q in rw s e
       go j l false q = b.good j (omega (arith, eqb-false j k q))
@@ -109,11 +115,11 @@ module _ (xs : List ℕ) (p : ℕ) where
   stops (suc (suc (suc zero))) n q l b e = rw (given 3 b 0 (omega arith), given 3 b 1 (omega arith), given 3 b 2 (omega arith), e)
   stops (suc (suc (suc (suc k)))) n q l b e = absurd (omega arith)
 
-  pub seg-short : (k : ℕ) → k < 4 → Begun xs p k → length xs ≤ p + k → refuses 1 (length xs) ≡ segment_end xs p
-  seg-short k l b h = stops k 1 (length xs) l b (of_end xs p k h)
+  pub seg-short : (k : ℕ) → k < 4 → Begun xs p k → (n q : ℕ) → refuses n q ≡ byte_at xs (p + k) → refuses n q ≡ segment_end xs p
+  seg-short k l b n q h = stops k n q l b (of_none xs p k n q h)
 
-  pub seg-bad : (k : ℕ) → k < 4 → Begun xs p k → p + k < length xs → seg_char k (get_or xs (p + k) 0) ≡ false → refuses 6 (p + k) ≡ segment_end xs p
-  seg-bad k l b h e = stops k 6 (p + k) l b (of-bad xs p k h e)
+  pub seg-bad : (k : ℕ) → k < 4 → Begun xs p k → (x : ℕ) → gives x ≡ byte_at xs (p + k) → seg_char k x ≡ false → refuses 6 (p + k) ≡ segment_end xs p
+  seg-bad k l b x h e = let w = byte-was xs (p + k) x (sym h) in stops k 6 (p + k) l b (of-bad xs p k w.0 (rw w.1 e))
 
   pub seg-whole : (k : ℕ) → 4 ≤ k → Begun xs p k → gives (p + 4) ≡ segment_end xs p
   unfolding segment_end segment char_of_number

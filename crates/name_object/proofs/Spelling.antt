@@ -13,7 +13,7 @@ use borrow.Author.Tests.{eqb-true, eqb-false, ne_eqb, leb-true}
 use Rattle.pkg_length.specs.Refusal.{Answer, gives, refuses, and_then}
 use Rattle.pkg_length.proofs.Answers.{never, unlike, refuses-not, gives_same, then-gives}
 use Rattle.name_object.specs.Component.{Component, root, up, seg, lead_ok, char_ok, is_seg_ok, fine}
-use Rattle.name_object.specs.Memory.{Named, name_of, path_in_answer, path_ok, told}
+use Rattle.name_object.specs.Memory.{Named, name_of, path_in_answer, path_ok, told, handed}
 use Rattle.name_object.specs.Name.{byte_at, segment, segments, run_at, name_path_answer, carets, prefix_of, spelled, judged, name_string_answer}
 use Rattle.name_object.specs.Grammar.{Segment, four, Segments, none, more, NamePath, null, dual, multi, one, Prefixed, plain, above, NameString, rooted, prefixed}
 use Rattle.name_object.specs.declared.Run.{Run}
@@ -416,6 +416,6 @@ name-fine limit xs v h = let s = (name-exactly limit xs v).0 h in (string-fine s
 pub name-is-path : (limit : ℕ) (xs : List ℕ) (v : Named ℕ) → name_string_answer limit xs ≡ gives v → path_in_answer limit (name_of limit v.path) ≡ gives v.path
 name-is-path limit xs v h = let f = name-fine limit xs v h in path-back limit v.path f.0 f.1
 
--- whatever the bytes, what name_string hands back passes the test of a path
-pub string-is-path : (limit : ℕ) (xs : List ℕ) → path_ok limit (told limit (name_string_answer limit xs)).memory ≡ true
+-- whatever the bytes, what name_string hands over passes the test of a path
+pub string-is-path : (limit : ℕ) (xs : List ℕ) → path_ok limit (handed limit (λ t. t.memory) (told limit (name_string_answer limit xs))) ≡ true
 string-is-path limit xs = told-is-path limit (name_string_answer limit xs) (name-fine limit xs)

@@ -1,20 +1,9 @@
 -- What the functions inside promise one another. No public contract rests on these.
 use Rattle.std.specs.Prelude.{ℕ, zero, suc, ◌+◌, ◌*◌, Bool, cond, List, [], ◌∷◌, ◌++◌, eqb, get_or, drop}
-use Rattle.pkg_length.specs.Refusal.{Answer, gives, refused, and_then}
+use Rattle.pkg_length.specs.Refusal.{Answer, gives, and_then}
 use Rattle.name_object.specs.Component.{Component, seg, lead_ok, char_ok}
 use Rattle.name_object.specs.Memory.{Named}
-use Rattle.name_object.specs.Name.{byte_at, segment, segments, prefix_of}
-use Rattle.name_object.specs.declared.Cursor.{Cursor}
-use Rattle.name_object.specs.declared.Run.{Run}
-use Rattle.name_object.specs.declared.RunAnswer.{RunAnswer}
-
-abbrev pub cursor_said : Cursor → Answer ℕ
-cursor_said (Cursor.At p) = gives p
-cursor_said (Cursor.Refused e) = refused e
-
-abbrev pub run_said : RunAnswer → Answer Run
-run_said (RunAnswer.Segments r) = gives r
-run_said (RunAnswer.Refused e) = refused e
+use Rattle.name_object.specs.Name.{segment, segments, prefix_of}
 
 -- character k of a segment: the first is a lead
 unfoldable pub seg_char : ℕ → ℕ → Bool
@@ -32,10 +21,6 @@ segment_end xs p = and_then (segment xs p) (λ c. gives (p + 4))
 -- the offset after n segments
 unfoldable pub segments_end : List ℕ → ℕ → ℕ → Answer ℕ
 segments_end xs p n = and_then (segments xs p n) (λ cs. gives (p + 4 * n))
-
--- where segments start that the byte at p counts
-unfoldable pub counted_at : List ℕ → ℕ → Answer Run
-counted_at xs p = and_then (byte_at xs p) (λ n. gives (record { from = p + 1; count = n }))
 
 -- the name whose n segments stand from p on, behind its prefix
 abbrev pub name_at : List ℕ → ℕ → ℕ → Named ℕ

@@ -55,15 +55,25 @@ pub record Named (A : Type 0) : Type 0 where
   pub path : List Component
   pub value : A
 
--- a path's memory, beside what is said
+-- the same, with the path in memory
 pub record Told (A : Type 0) : Type 0 where
   pub memory : AmlName
-  pub said : Answer A
+  pub value : A
 
--- an answer that holds a path, as the code tells it: a refusal stands beside the empty path
-abbrev pub told : {A : Type 0} → ℕ → Answer (Named A) → Told A
-told limit (gives v) = record { memory = name_of limit v.path; said = gives v.value }
-told limit (refuses n p) = record { memory = name_of limit []; said = refuses n p }
+-- an answer that is a path, as the code tells it: in memory
+abbrev pub named : ℕ → Answer (List Component) → Answer AmlName
+named limit (gives cs) = gives (name_of limit cs)
+named limit (refuses n p) = refuses n p
+
+-- an answer that holds a path, as the code tells it
+abbrev pub told : {A : Type 0} → ℕ → Answer (Named A) → Answer (Told A)
+told limit (gives v) = gives (record { memory = name_of limit v.path; value = v.value })
+told limit (refuses n p) = refuses n p
+
+-- the path in memory that an answer hands over; beside a refusal there is none, and the empty path stands for it
+abbrev pub handed : {A : Type 0} → ℕ → (A → AmlName) → Answer A → AmlName
+handed limit memory (gives a) = memory a
+handed limit memory (refuses n p) = name_of limit []
 
 -- what `push` and `pop` do to memory
 unfoldable pub put4 : List ℕ → ℕ → ℕ → ℕ → ℕ → ℕ → List ℕ

@@ -1,10 +1,9 @@
 -- NameString, read by document 01's grammar: what bytes name, and how many of them.
 use Rattle.std.specs.Prelude.{ℕ, zero, suc, ◌+◌, ◌*◌, Bool, cond, List, [], ◌∷◌, ◌++◌, leb, ltb, eqb, length, get_or}
-use Rattle.pkg_length.specs.Refusal.{Answer, gives, refuses, refused, and_then}
+use Rattle.pkg_length.specs.Refusal.{Answer, gives, refuses, and_then}
 use Rattle.name_object.specs.Component.{Component, root, up, seg, lead_ok, char_ok}
 use Rattle.name_object.specs.Memory.{Named, Told}
-use Rattle.name_object.specs.declared.NameSaid.{NameSaid}
-use Rattle.name_object.specs.declared.NameAnswer.{NameAnswer}
+use Rattle.name_object.specs.declared.NameRead.{NameRead}
 use Rattle.name_object.specs.declared.Run.{Run}
 
 -- the byte at offset p of a part: 1 at the end where there is none
@@ -67,10 +66,6 @@ judged limit n = cond (eqb (length n.path) 0) (refuses 7 0) (cond (leb (length n
 unfoldable pub name_string_answer : ℕ → List ℕ → Answer (Named ℕ)
 name_string_answer limit xs = and_then (spelled xs) (judged limit)
 
--- what the code's answers say
-abbrev pub name_said : NameSaid → Answer ℕ
-name_said (NameSaid.Used u) = gives u
-name_said (NameSaid.Refused e) = refused e
-
-abbrev pub name_told : NameAnswer → Told ℕ
-name_told r = record { memory = r.name; said = name_said r.said }
+-- a name that the code read: its path in memory, and the bytes used
+abbrev pub name_read : NameRead → Told ℕ
+name_read r = record { memory = r.name; value = r.used }

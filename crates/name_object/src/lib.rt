@@ -2,11 +2,11 @@
 #![tactic(auto)]
 
 ghost use Rattle.std.specs.Prelude.{◌≡◌, ◌+◌, ◌*◌, ◌<◌, ◌≤◌, length};
-ghost use Rattle.pkg_length.specs.Refusal.{refused};
+ghost use Rattle.pkg_length.specs.Refusal.{said, said_as};
 ghost use Rattle.name_object.specs.Component.{component_limit, lead_ok, digit_ok, char_ok};
 ghost use Rattle.name_object.specs.Memory.{name_of, told};
-ghost use Rattle.name_object.specs.Name.{name_told, prefix_of, run_at, judged, name_string_answer};
-ghost use Rattle.name_object.specs.Inside.{seg_char, name_at, cursor_said, run_said, segment_end, segments_end, counted_at};
+ghost use Rattle.name_object.specs.Name.{byte_at, name_read, prefix_of, run_at, judged, name_string_answer};
+ghost use Rattle.name_object.specs.Inside.{seg_char, name_at, segment_end, segments_end};
 
 use pkg_length::AmlError;
 
@@ -24,40 +24,29 @@ const DUAL_NAME_PREFIX: u8 = 0x2E;
 
 const MULTI_NAME_PREFIX: u8 = 0x2F;
 
-const ROOT_CHAR: u8 = 0x5C;
+// The first of a component's four bytes, where it is the root.
+pub const ROOT_CHAR: u8 = 0x5C;
 
-const PREFIX_CHAR: u8 = 0x5E;
+// The same, where it leads to the scope above.
+pub const PREFIX_CHAR: u8 = 0x5E;
 
 // A segment of a name: a lead, then three of lead or digit.
-#[derive(Clone, Copy)]
+#[derive(Clone, Copy, Debug, PartialEq, Eq)]
 pub struct NameSeg(pub [u8; 4]);
 
 // A path: how many components, and four bytes for each: a segment, or 5C or 5E and zeros. Spare bytes are zero, so equal paths are equal values.
-#[derive(Clone, Copy)]
+// An array with its count, and no Vec: the layers use no heap, C lends this layout (include/klem.h), and any memory is taken and tested (26), by `path_ok`.
+#[derive(Clone, Copy, Debug, PartialEq, Eq)]
 pub struct AmlName {
     pub count: usize,
     pub bytes: [u8; PATH_BYTES],
 }
 
-// The bytes used, or why there is no path.
-#[derive(Clone, Copy)]
-pub enum NameSaid {
-    Used(usize),
-    Refused(AmlError),
-}
-
-// The path stands beside the answer; beside a refusal it is the empty path.
-#[derive(Clone, Copy)]
-pub struct NameAnswer {
+// A path that was read, and the bytes used.
+#[derive(Clone, Copy, Debug, PartialEq, Eq)]
+pub struct NameRead {
     pub name: AmlName,
-    pub said: NameSaid,
-}
-
-// Where reading goes on.
-#[derive(Clone, Copy)]
-enum Cursor {
-    At(usize),
-    Refused(AmlError),
+    pub used: usize,
 }
 
 // That many segments from an offset on.
@@ -67,24 +56,21 @@ struct Run {
     count: usize,
 }
 
-#[derive(Clone, Copy)]
-enum RunAnswer {
-    Segments(Run),
-    Refused(AmlError),
-}
-
+#[tactic(auto, unfolding(crate::specs::Component::lead_ok))]
 pub fn is_lead_name_char(byte: u8) -> bool
     ensures { result ≡ lead_ok byte }
 {
     (byte == b'_') | ((b'A' <= byte) & (byte <= b'Z'))
 }
 
+#[tactic(auto, unfolding(crate::specs::Component::digit_ok))]
 pub fn is_digit_char(byte: u8) -> bool
     ensures { result ≡ digit_ok byte }
 {
     (b'0' <= byte) & (byte <= b'9')
 }
 
+#[tactic(auto, unfolding(crate::specs::Component::char_ok))]
 pub fn is_name_char(byte: u8) -> bool
     ensures { result ≡ char_ok byte }
 {
@@ -92,6 +78,7 @@ pub fn is_name_char(byte: u8) -> bool
 }
 
 // Character k of a segment: the first is a lead.
+#[tactic(auto, unfolding(crate::specs::Inside::seg_char))]
 fn is_seg_char(k: usize, byte: u8) -> bool
     ensures { result ≡ seg_char k byte }
 {
@@ -101,166 +88,121 @@ fn is_seg_char(k: usize, byte: u8) -> bool
     is_name_char(byte)
 }
 
-// One segment at `at`; the offset after it.
-fn name_seg(input: &[u8], at: usize) -> Cursor
-    requires { at ≤ length input.now }
-    ensures { cursor_said result ≡ segment_end input.now at }
+// The byte at an offset, or that the part ends before it.
+#[tactic(auto, unfolding(crate::specs::Name::byte_at))]
+fn byte_at(input: &[u8], at: usize) -> Result<u8, AmlError>
+    ensures { said result ≡ byte_at input.now at }
 {
-    let mut k = 0;
-    while k < 4 {
-        let i = at + k;
-        if input.len() <= i {
-            return Cursor::Refused(AmlError::UnexpectedEndOfStream(input.len()));
-        }
-        if is_seg_char(k, input[i]) {
-            k += 1;
-        } else {
-            return Cursor::Refused(AmlError::BadNameByte(i));
-        }
+    if input.len() <= at {
+        return Err(AmlError::UnexpectedEndOfStream(input.len()));
     }
-    Cursor::At(at + 4)
+    Ok(input[at])
 }
 
-// n segments from `from` on: all are read, however many a path may hold. The offset after them.
-fn name_segs(input: &[u8], from: usize, n: usize) -> Cursor
-    requires { from ≤ length input.now }
-    ensures { cursor_said result ≡ segments_end input.now from n }
+// One segment at `at`; the offset after it.
+fn name_seg(input: &[u8], at: usize) -> Result<usize, AmlError>
+    requires { at ≤ length input.now }
+    ensures { said result ≡ segment_end input.now at }
 {
-    let mut at = from;
-    let mut done = 0;
-    while done < n {
-        match name_seg(input, at) {
-            Cursor::At(next) => {
-                at = next;
-                done += 1;
-            }
-            Cursor::Refused(e) => {
-                return Cursor::Refused(e);
-            }
+    for k in 0..4 {
+        let i = at + k;
+        if !is_seg_char(k, byte_at(input, i)?) {
+            return Err(AmlError::BadNameByte(i));
         }
     }
-    Cursor::At(at)
+    Ok(at + 4)
+}
+
+// The segments of a run: all are read, however many a path may hold. The offset after them.
+fn name_segs(input: &[u8], run: Run) -> Result<usize, AmlError>
+    requires { run.from ≤ length input.now }
+    ensures { said result ≡ segments_end input.now run.from run.count }
+{
+    let mut at = run.from;
+    for done in 0..run.count {
+        at = name_seg(input, at)?;
+    }
+    Ok(at)
 }
 
 // Where the segments of a NamePath start, and how many there are. NamePath := NullName | DualNamePath | MultiNamePath | NameSeg;
 // NullName := 0x00; DualNamePath := 0x2e NameSeg NameSeg; MultiNamePath := 0x2f ByteData{SegCount} NameSeg(SegCount)
-fn name_path(input: &[u8], at: usize) -> RunAnswer
+fn name_path(input: &[u8], at: usize) -> Result<Run, AmlError>
     requires { at ≤ length input.now }
-    ensures { run_said result ≡ run_at input.now at }
+    ensures { said result ≡ run_at input.now at }
 {
-    if input.len() <= at {
-        return RunAnswer::Refused(AmlError::UnexpectedEndOfStream(input.len()));
-    }
-    let b = input[at];
-    match b {
-        NULL_NAME => RunAnswer::Segments(Run {
+    match byte_at(input, at)? {
+        NULL_NAME => Ok(Run {
             from: at + 1,
             count: 0,
         }),
-        DUAL_NAME_PREFIX => RunAnswer::Segments(Run {
+        DUAL_NAME_PREFIX => Ok(Run {
             from: at + 1,
             count: 2,
         }),
-        MULTI_NAME_PREFIX => multi_name_path(input, at + 1),
-        _ => RunAnswer::Segments(Run { from: at, count: 1 }),
+        MULTI_NAME_PREFIX => {
+            let count = byte_at(input, at + 1)?;
+            Ok(Run {
+                from: at + 2,
+                count: usize::from(count),
+            })
+        }
+        _ => Ok(Run { from: at, count: 1 }),
     }
-}
-
-// The count byte of a MultiNamePath, and its segments behind it.
-fn multi_name_path(input: &[u8], at: usize) -> RunAnswer
-    requires { at ≤ length input.now }
-    ensures { run_said result ≡ counted_at input.now at }
-{
-    if input.len() <= at {
-        return RunAnswer::Refused(AmlError::UnexpectedEndOfStream(input.len()));
-    }
-    RunAnswer::Segments(Run {
-        from: at + 1,
-        count: input[at] as usize,
-    })
 }
 
 // The bytes before the NamePath: one `\`, or the `^`s.
 fn prefixes(input: &[u8]) -> usize
     ensures { (result ≡ length (prefix_of input.now)) × (result ≤ length input.now) }
 {
-    if input.len() == 0 {
-        return 0;
-    }
-    if input[0] == ROOT_CHAR {
+    if !input.is_empty() && input[0] == ROOT_CHAR {
         return 1;
     }
-    let mut k = 0;
-    while k < input.len() {
-        if input[k] == PREFIX_CHAR {
-            k += 1;
-        } else {
-            return k;
-        }
-    }
-    k
+    input.iter().take_while(|b| **b == PREFIX_CHAR).count()
 }
 
-// The path of `pre` bytes of prefix and the n segments from `from` on.
-fn build(input: &[u8], pre: usize, from: usize, n: usize) -> AmlName
-    requires { (pre ≡ length (prefix_of input.now)) × (pre ≤ length input.now) × (from + 4 * n ≤ length input.now) × (pre + n ≤ component_limit) }
-    ensures { result ≡ name_of component_limit (name_at input.now from n).path }
+// The path of `pre` bytes of prefix and a run of segments.
+fn build(input: &[u8], pre: usize, run: Run) -> AmlName
+    requires { (pre ≡ length (prefix_of input.now)) × (pre ≤ length input.now) × (run.from + 4 * run.count ≤ length input.now) × (pre + run.count ≤ component_limit) }
+    ensures { result ≡ name_of component_limit (name_at input.now run.from run.count).path }
 {
     let mut name = inner::empty();
-    let mut i = 0;
-    while i < pre {
-        name = inner::push(name, input[i], 0, 0, 0);
-        i += 1;
+    for byte in &input[..pre] {
+        name = inner::push(name, [*byte, 0, 0, 0]);
     }
-    let mut j = 0;
-    while j < n {
-        let at = from + 4 * j;
-        name = inner::push(name, input[at], input[at + 1], input[at + 2], input[at + 3]);
-        j += 1;
+    for j in 0..run.count {
+        let at = run.from + 4 * j;
+        name = inner::push(
+            name,
+            [input[at], input[at + 1], input[at + 2], input[at + 3]],
+        );
     }
     name
 }
 
-fn refuse(e: AmlError) -> NameAnswer
-    ensures { name_told result ≡ told component_limit (refused e) }
+// The name of `pre` bytes of prefix and a run of segments, all of which were read: how many components it has decides.
+fn named(input: &[u8], pre: usize, run: Run) -> Result<NameRead, AmlError>
+    requires { (pre ≡ length (prefix_of input.now)) × (pre ≤ length input.now) × (run.from + 4 * run.count ≤ length input.now) }
+    ensures { said_as name_read result ≡ told component_limit (judged component_limit (name_at input.now run.from run.count)) }
 {
-    NameAnswer {
-        name: inner::empty(),
-        said: NameSaid::Refused(e),
+    if pre + run.count == 0 {
+        return Err(AmlError::EmptyNamesAreInvalid);
     }
-}
-
-// The name of `pre` bytes of prefix and the n segments from `from` on, all of which were read: how many components it has decides.
-fn named(input: &[u8], pre: usize, from: usize, n: usize) -> NameAnswer
-    requires { (pre ≡ length (prefix_of input.now)) × (pre ≤ length input.now) × (from + 4 * n ≤ length input.now) }
-    ensures { name_told result ≡ told component_limit (judged component_limit (name_at input.now from n)) }
-{
-    if pre + n == 0 {
-        return refuse(AmlError::EmptyNamesAreInvalid);
+    if COMPONENTS < pre + run.count {
+        return Err(AmlError::TooManyComponents);
     }
-    if COMPONENTS < pre + n {
-        return refuse(AmlError::TooManyComponents);
-    }
-    NameAnswer {
-        name: build(input, pre, from, n),
-        said: NameSaid::Used(from + 4 * n),
-    }
+    Ok(NameRead {
+        name: build(input, pre, run),
+        used: run.from + 4 * run.count,
+    })
 }
 
 // NameString := <RootChar('\\') NamePath> | <PrefixPath NamePath>; PrefixPath := Nothing | <'^' PrefixPath>
-pub fn name_string(input: &[u8]) -> NameAnswer
-    ensures { name_told result ≡ told component_limit (name_string_answer component_limit input.now) }
+pub fn name_string(input: &[u8]) -> Result<NameRead, AmlError>
+    ensures { said_as name_read result ≡ told component_limit (name_string_answer component_limit input.now) }
 {
     let pre = prefixes(input);
-    match name_path(input, pre) {
-        RunAnswer::Refused(e) => refuse(e),
-        RunAnswer::Segments(run) => {
-            let from = run.from;
-            let n = run.count;
-            match name_segs(input, from, n) {
-                Cursor::Refused(e) => refuse(e),
-                Cursor::At(_) => named(input, pre, from, n),
-            }
-        }
-    }
+    let run = name_path(input, pre)?;
+    name_segs(input, run)?;
+    named(input, pre, run)
 }

@@ -8,19 +8,17 @@ use lib.Dec.{leb, eqb}
 use lib.ListN.{length, take, get_or}
 use lib.Seq.{length-take-le, take-take}
 use borrow.Author.Tests.{eqb-true}
-use Rattle.name_object.specs.Component.{Component, root, up, seg, lead_ok, is_seg_ok, fine, spell_one}
+use Rattle.name_object.specs.Component.{Component, root, up, seg, lead_ok, is_seg_ok}
 use Rattle.name_object.specs.Memory.{name_of, kind_ok, component_of, components, bytes_ok, path_ok, path_of_name, pushed, popped}
 use Rattle.name_object.specs.declared.AmlName.{AmlName}
 use Rattle.pkg_length.proofs.Answers.{halves, never}
-use Rattle.name_object.proofs.Paths.{path-fine, name-whole, seg-lead}
+use Rattle.name_object.proofs.Paths.{name-whole, seg-lead}
 use Rattle.name_object.proofs.Memory.{push-one}
-use Rattle.path.proofs.Walks.{length-path, byte_at}
+use Rattle.path.proofs.Walks.{length-path}
 use Rattle.name_object.proofs.Memory.{pop-last}
-use Rattle.table.specs.Tree.{number, key}
 use Rattle.path.specs.Normal.{one_segment}
-use Rattle.namespace.specs.Search.{first_of}
-use Rattle.namespace.specs.Inside.{Settled, Bare}
-use Rattle.namespace.proofs.Keys.{SegAt, seg-number}
+use Rattle.name_object.specs.declared.NameSeg.{NameSeg}
+use Rattle.namespace.specs.Settled.{Settled, segment_of}
 
 -- the test of one bare segment
 not-one : (cs : List Component) → (length cs ≡ 1 → ⊥) → one_segment cs ≡ false
@@ -60,35 +58,20 @@ bare-one limit name h e = one-kind _ _ _ _ first ∙ ap one_segment (sym alone)
     first : kind_ok true (get_or name.bytes 0 0) (get_or name.bytes 1 0) (get_or name.bytes 2 0) (get_or name.bytes 3 0) ≡ true
     first = unfold path_ok bytes_ok in (halves (kind_ok true (get_or name.bytes 0 0) (get_or name.bytes 1 0) (get_or name.bytes 2 0) (get_or name.bytes 3 0)) _ (rw e at (halves (leb name.count limit) _ h).1)).0
 
--- the segment itself
-module _ (limit : ℕ) (name : AmlName) (hb : length name.bytes ≡ 4 * limit) (h : Bare limit name) where
-  view : (cs : List Component) → one_segment cs ≡ true → fine true cs ≡ true → (length cs ≡ 1) × SegAt (first_of cs) × (first_of cs ≡ get_or cs 0 up)
-  unfolding fine
-  view [] b f = never b
-  view (root ∷ cs) b f = never b
-  view (up ∷ cs) b f = never b
-  view (seg p q r s ∷ []) b f = (refl, record { a = p; b = q; c = r; d = s; is = refl; ok = (halves (is_seg_ok p q r s) true f).0 }, refl)
-  view (seg p q r s ∷ x ∷ cs) b f = never b
+pub bare-is : (name : AmlName) → name.count ≡ 1 → lead_ok (get_or name.bytes 0 0) ≡ true
+    → path_of_name name ≡ seg (get_or name.bytes 0 0) (get_or name.bytes 1 0) (get_or name.bytes 2 0) (get_or name.bytes 3 0) ∷ []
+bare-is name e h = alone ∙ ap (λ (x : Component). x ∷ []) (lead-seg _ _ _ _ h)
+  where
+    alone : path_of_name name ≡ component_of (get_or name.bytes 0 0) (get_or name.bytes 1 0) (get_or name.bytes 2 0) (get_or name.bytes 3 0) ∷ []
+    alone = unfold path_of_name components in rw e
 
-  seen : (length (path_of_name name) ≡ 1) × SegAt (first_of (path_of_name name)) × (first_of (path_of_name name) ≡ get_or (path_of_name name) 0 up)
-  seen = view (path_of_name name) h.alone (path-fine limit name h.path).0
-
-  pub bare-count : name.count ≡ 1
-  bare-count = sym (length-path name) ∙ seen.0
-
-  pub bare-bytes : spell_one (first_of (path_of_name name)) ≡ get_or name.bytes 0 0 ∷ get_or name.bytes 1 0 ∷ get_or name.bytes 2 0 ∷ get_or name.bytes 3 0 ∷ []
-  bare-bytes = ap spell_one seen.2 ∙ byte_at limit name 0 (record { size = hb; ok = h.path }) (omega (arith, bare-count))
-
-  pub bare-number : key (first_of (path_of_name name)) ≡ number (get_or name.bytes 0 0) (get_or name.bytes 1 0) (get_or name.bytes 2 0) (get_or name.bytes 3 0)
-  bare-number = seg-number (first_of (path_of_name name)) _ _ _ _ seen.1 bare-bytes
-
-  pub bare-single : path_of_name name ≡ first_of (path_of_name name) ∷ []
-  bare-single = alone (path_of_name name) seen.0
-    where
-      alone : (cs : List Component) → length cs ≡ 1 → cs ≡ first_of cs ∷ []
-      alone [] e = absurd (omega arith)
-      alone (c ∷ []) e = refl
-      alone (c ∷ x ∷ cs) e = absurd (omega arith)
+    lead-seg : (a b c d : ℕ) → lead_ok a ≡ true → component_of a b c d ≡ seg a b c d
+    lead-seg a b c d h = unfold component_of in go (eqb a 0x5C) (eqb a 0x5E) refl refl
+      where
+        go : (s t : Bool) → eqb a 0x5C ≡ s → eqb a 0x5E ≡ t → cond s root (cond t up (seg a b c d)) ≡ seg a b c d
+        go true t p q = never (sym lead-root ∙ sym (ap lead_ok (eqb-true a 0x5C p)) ∙ h)
+        go false true p q = never (sym lead_up ∙ sym (ap lead_ok (eqb-true a 0x5E q)) ∙ h)
+        go false false p q = refl
 
 -- cutting
 pub cut-start : (limit : ℕ) (name : AmlName) → length name.bytes ≡ 4 * limit → Settled limit name → name ≡ name_of limit (take name.count (path_of_name name))
@@ -104,9 +87,9 @@ pub cut-count : (limit : ℕ) (cs : List Component) (k : ℕ) (cut : AmlName) �
 unfolding name_of
 cut-count limit cs k cut h e = ap (λ (n : AmlName). n.count) e ∙ length-take-le k cs h
 
--- a bare segment behind what was cut
-pub put-bare : (limit : ℕ) (cs : List Component) (n : ℕ) (name : AmlName) (hb : length name.bytes ≡ 4 * limit) (h : Bare limit name) (cut : AmlName) → n ≤ length cs → n < limit → cut ≡ name_of limit (take n cs)
-    → pushed cut (get_or name.bytes 0 0) (get_or name.bytes 1 0) (get_or name.bytes 2 0) (get_or name.bytes 3 0) ≡ name_of limit (take n cs ++ (first_of (path_of_name name) ∷ []))
-put-bare limit cs n name hb h cut l k e =
-    ap (λ (x : AmlName). pushed x (get_or name.bytes 0 0) (get_or name.bytes 1 0) (get_or name.bytes 2 0) (get_or name.bytes 3 0)) e
-    ∙ push-one limit (take n cs) (first_of (path_of_name name)) _ _ _ _ (omega (arith, length-take-le n cs l)) (bare-bytes limit name hb h)
+-- a segment behind what was cut
+pub put-segment : (limit : ℕ) (cs : List Component) (n : ℕ) (segment : NameSeg) (cut : AmlName) → n ≤ length cs → n < limit → cut ≡ name_of limit (take n cs)
+    → pushed cut (get_or segment.0 0 0) (get_or segment.0 1 0) (get_or segment.0 2 0) (get_or segment.0 3 0) ≡ name_of limit (take n cs ++ (segment_of segment ∷ []))
+put-segment limit cs n segment cut l k e =
+    ap (λ (x : AmlName). pushed x (get_or segment.0 0 0) (get_or segment.0 1 0) (get_or segment.0 2 0) (get_or segment.0 3 0)) e
+    ∙ push-one limit (take n cs) (segment_of segment) _ _ _ _ (omega (arith, length-take-le n cs l)) refl

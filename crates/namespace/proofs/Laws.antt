@@ -31,7 +31,7 @@ use Rattle.namespace.specs.declared.LevelType.{LevelType}
 use Rattle.namespace.specs.declared.LevelType.TheVariants.{Scope, Device, Processor, PowerResource, ThermalZone, MethodLocals}
 use Rattle.namespace.specs.Calls.{new_call, settled_keys, resolved_keys, number_of_type, add_level_call, remove_level_call, add_value_call, add_value_resolved_call, alias_at, add_alias_call, set_call, get_handle_call, get_by_path_call, set_by_path_call}
 use Rattle.namespace.specs.Search.{first_of, search_call, level_call}
-use Rattle.namespace.proofs.Keys.{key-ok, Keeps, asked, joined, asked-keys, joined-keys, asked-keeps, joined_keeps}
+use Rattle.namespace.proofs.PathKeys.{key-ok, Keeps, asked, joined, asked-keys, joined-keys, asked-keeps, joined_keeps}
 use Rattle.namespace.proofs.SearchCalls.{search-bare, level-bare}
 
 -- the keys of a normal absolute path are good

@@ -1,4 +1,4 @@
-pub mod Keys
+pub mod PathKeys
 pub mod Calls
 pub mod ValueCalls
 pub mod Bare

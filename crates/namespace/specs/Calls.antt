@@ -1,6 +1,6 @@
 -- Each public call, whole: memory is tested first (24), then paths in argument order (26), then document 01's rules for the call.
 use Rattle.std.specs.Prelude.{cond, ℕ, List, eqb, length}
-use Rattle.pkg_length.specs.Refusal.{Answer, gives, refuses, refused, and_then}
+use Rattle.pkg_length.specs.Refusal.{Answer, gives, refuses, and_then}
 use Rattle.name_object.specs.Component.{Component}
 use Rattle.name_object.specs.Memory.{path_in_answer}
 use Rattle.name_object.specs.declared.AmlName.{AmlName}
@@ -11,9 +11,6 @@ use Rattle.table.specs.Memory.{means, size, Edited, Left, done, fresh_tree}
 use Rattle.table.specs.Edits.{add_level_answer, remove_level_answer, look_up_answer, add_value_answer, add_alias_answer, value_of, set_value}
 use Rattle.namespace.specs.declared.LevelType.{LevelType}
 use Rattle.namespace.specs.declared.LevelType.TheVariants.{Scope, Device, Processor, PowerResource, ThermalZone, MethodLocals}
-use Rattle.namespace.specs.declared.EditAnswer.{EditAnswer}
-use Rattle.namespace.specs.declared.ValueAnswer.{ValueAnswer}
-use Rattle.namespace.specs.declared.HandleAnswer.{HandleAnswer}
 
 -- a fresh table refuses only memory of a wrong length
 unfoldable pub new_call : Limits → List ℕ → Answer (Edited (Unit {0}))
@@ -82,22 +79,6 @@ get_call m ws h = and_then (means m ws) (λ t. value_of t h)
 unfoldable pub set_call : Limits → List ℕ → ℕ → ℕ → Answer (Edited (Unit {0}))
 set_call m ws h v = and_then (means m ws) (λ t. done (set_value t h v))
 
--- what the code's answers say
-abbrev pub edit_said : EditAnswer → Answer (Unit {0})
-edit_said EditAnswer.Done = gives tt
-edit_said (EditAnswer.Refused e) = refused e
-
-abbrev pub value_said : ValueAnswer → Answer ℕ
-value_said (ValueAnswer.Value v) = gives v
-value_said (ValueAnswer.Refused e) = refused e
-
-abbrev pub handle_said : HandleAnswer → Answer ℕ
-handle_said (HandleAnswer.Handle h) = gives h.0
-handle_said (HandleAnswer.Refused e) = refused e
-
-abbrev pub handle_left : List ℕ → HandleAnswer → Left ℕ
-handle_left ws r = record { words = ws; said = handle_said r }
-
 -- the words that an edit leaves, beside what it says
-abbrev pub edit_left : List ℕ → EditAnswer → Left (Unit {0})
-edit_left ws r = record { words = ws; said = edit_said r }
+abbrev pub edit_left : {A : Type 0} → List ℕ → Answer A → Left A
+edit_left ws a = record { words = ws; said = a }

@@ -1,6 +1,6 @@
 -- The call that lists the levels, whole (02, R-8): memory is tested first (24), then the path (26, 11, 10), then that it names a live level (15), then the room in the list (25).
-use Rattle.std.specs.Prelude.{cond, List, ◌++◌, map, ℕ, eqb, length, drop}
-use Rattle.pkg_length.specs.Refusal.{Answer, gives, refuses, refused, and_then}
+use Rattle.std.specs.Prelude.{cond, List, ◌++◌, map, ℕ, eqb, leb, length, drop, Result, Ok, Err}
+use Rattle.pkg_length.specs.Refusal.{Answer, gives, refuses, and_then}
 use Rattle.name_object.specs.declared.AmlName.{AmlName}
 use Rattle.table.specs.Limits.{Limits}
 use Rattle.table.specs.Tree.{Tree}
@@ -10,12 +10,16 @@ use Rattle.namespace.specs.Calls.{settled_keys}
 use Rattle.namespace.specs.declared.LevelType.{LevelType}
 use Rattle.namespace.specs.declared.LevelType.TheVariants.{Scope, Device, Processor, PowerResource, ThermalZone, MethodLocals}
 use Rattle.namespace.specs.declared.LevelRecord.{LevelRecord}
-use Rattle.namespace.specs.declared.LevelsAnswer.{LevelsAnswer}
+use Rattle.namespace.specs.declared.UnknownType.{UnknownType}
 
 -- the type of a number: what `number_of_type` numbers, from 0 to 5
 unfoldable pub type_of_level : ℕ → LevelType
 type_of_level n =
     cond (eqb n 0) Scope (cond (eqb n 1) Device (cond (eqb n 2) Processor (cond (eqb n 3) PowerResource (cond (eqb n 4) ThermalZone MethodLocals))))
+
+-- the type of a number, if one has it
+abbrev pub type_numbered : ℕ → Result LevelType UnknownType
+type_numbered n = cond (leb n 5) (Ok (type_of_level n)) (Err (record { 0 = n }))
 
 -- a level as the list holds it: its depth, its type, and its segment's four bytes
 abbrev pub record_of_word : Listed → LevelRecord
@@ -38,10 +42,5 @@ abbrev pub filled : List LevelRecord → Answer (List LevelRecord) → Filled
 filled olds (gives rs) = record { records = rs ++ drop (length rs) olds; said = gives (length rs) }
 filled olds (refuses n p) = record { records = olds; said = refuses n p }
 
--- what the code's answer says
-abbrev pub levels_said : LevelsAnswer → Answer ℕ
-levels_said (LevelsAnswer.Written n) = gives n
-levels_said (LevelsAnswer.Refused e) = refused e
-
-abbrev pub left_of_list : List LevelRecord → LevelsAnswer → Filled
-left_of_list rs r = record { records = rs; said = levels_said r }
+abbrev pub left_of_list : List LevelRecord → Answer ℕ → Filled
+left_of_list rs a = record { records = rs; said = a }

@@ -3,3 +3,4 @@ pub mod Search
 pub mod Levels
 pub mod Inside
 pub mod Listing
+pub mod Settled

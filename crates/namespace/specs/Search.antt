@@ -1,6 +1,6 @@
 -- The calls that search, whole.
 use Rattle.std.specs.Prelude.{cond, ℕ, List, [], ◌∷◌}
-use Rattle.pkg_length.specs.Refusal.{Answer, gives, refused, and_then}
+use Rattle.pkg_length.specs.Refusal.{Answer, gives, and_then}
 use Rattle.name_object.specs.Component.{Component, up}
 use Rattle.name_object.specs.Memory.{Named, Told, path_in_answer}
 use Rattle.name_object.specs.declared.AmlName.{AmlName}
@@ -11,10 +11,8 @@ use Rattle.table.specs.Memory.{means}
 use Rattle.table.specs.Edits.{look_up_answer}
 use Rattle.table.specs.Search.{Hit, search_up_answer, level_up_answer}
 use Rattle.namespace.specs.Calls.{settled}
-use Rattle.namespace.specs.declared.SearchSaid.{SearchSaid}
-use Rattle.namespace.specs.declared.SearchAnswer.{SearchAnswer}
-use Rattle.namespace.specs.declared.LevelSaid.{LevelSaid}
-use Rattle.namespace.specs.declared.LevelAnswer.{LevelAnswer}
+use Rattle.namespace.specs.declared.Found.{Found}
+use Rattle.namespace.specs.declared.LevelFound.{LevelFound}
 
 abbrev pub first_of : List Component → Component
 first_of [] = up
@@ -45,17 +43,9 @@ level_call m ws path scope =
     (and_then (settled m.components ss) (λ ns. level_up_answer m t (first_of cs) ns))
     (gives (record { path = cs; value = 0 })))))
 
--- what the code's answers say
-abbrev pub search_said : SearchSaid → Answer Hit
-search_said (SearchSaid.Found h k) = gives (record { handle = h.0; asked = k })
-search_said (SearchSaid.Refused e) = refused e
+-- what the code found: the path in memory, and what stands beside it
+abbrev pub found_hit : Found → Told Hit
+found_hit f = record { memory = f.name; value = record { handle = f.handle.0; asked = f.asked } }
 
-abbrev pub search_told : SearchAnswer → Told Hit
-search_told r = record { memory = r.name; said = search_said r.said }
-
-abbrev pub level_said : LevelSaid → Answer ℕ
-level_said (LevelSaid.At k) = gives k
-level_said (LevelSaid.Refused e) = refused e
-
-abbrev pub level_told : LevelAnswer → Told ℕ
-level_told r = record { memory = r.name; said = level_said r.said }
+abbrev pub found_level : LevelFound → Told ℕ
+found_level f = record { memory = f.name; value = f.asked }

@@ -5,27 +5,23 @@ use mathlib.Core.List.{List, [], ◌∷◌, ◌++◌, drop_last}
 use Prim.Native.Nat.{ℕ, ◌+◌, ◌≤◌, ◌<◌}
 use native.Mathlib.Omega.{arith}
 use lib.ListN.{length, length-append}
-use Rattle.pkg_length.specs.Refusal.{Answer, gives, refuses, refused, and_then}
-use Rattle.pkg_length.specs.declared.AmlError.{AmlError}
-use Rattle.pkg_length.proofs.Answers.{wrong, refuses-not, refuses-as}
+use Rattle.pkg_length.specs.Refusal.{Answer, gives, refuses, and_then}
+use Rattle.pkg_length.proofs.Answers.{wrong, refuses-not, gives_same, refuses-as}
 use Rattle.name_object.specs.Component.{Component}
-use Rattle.name_object.specs.Memory.{name_of, popped, path_in_answer, Told, told}
+use Rattle.name_object.specs.Memory.{name_of, popped, path_in_answer, named}
 use Rattle.name_object.specs.declared.AmlName.{AmlName}
 use Rattle.name_object.proofs.Memory.{one-view, pop-one}
-use Rattle.path.specs.declared.PathAnswer.{PathAnswer}
-use Rattle.path.specs.declared.PathSaid.{PathSaid}
-use Rattle.path.specs.Normal.{normal, top, parent_of, alone, path_said, path_told}
+use Rattle.path.specs.Normal.{normal, top, parent_of}
 
--- an answer says Done where there is a path, and has it in memory
-pub said-done : (limit : ℕ) (a : Answer (List Component)) (r : PathAnswer) → path_told r ≡ told limit (alone a) → r.said ≡ PathSaid.Done →
-    (cs : List Component) × (a ≡ gives cs) × (r.name ≡ name_of limit cs)
-said-done limit (gives cs) r h d = (cs, refl, ap (λ (t : Told (Unit {0})). t.memory) h)
-said-done limit (refuses n p) r h d = refuses-not (sym (sym (ap path_said d) ∙ ap (λ (t : Told (Unit {0})). t.said) h))
+-- an answer gives a path where there is one, and has it in memory
+pub named-given : (limit : ℕ) (a : Answer (List Component)) (name : AmlName) → gives name ≡ named limit a → (cs : List Component) × (a ≡ gives cs) × (name ≡ name_of limit cs)
+named-given limit (gives cs) name h = (cs, refl, gives_same h)
+named-given limit (refuses n p) name h = refuses-not (sym h)
 
 -- and else the refusal's number and place
-pub said-refused : (limit : ℕ) (a : Answer (List Component)) (r : PathAnswer) (e : AmlError) → path_told r ≡ told limit (alone a) → r.said ≡ PathSaid.Refused e → refused e ≡ a
-said-refused limit (gives cs) r e h d = refuses-not (sym (ap path_said d) ∙ ap (λ (t : Told (Unit {0})). t.said) h)
-said-refused limit (refuses n p) r e h d = refuses-as (sym (ap path_said d) ∙ ap (λ (t : Told (Unit {0})). t.said) h)
+pub named-refused : (limit : ℕ) (a : Answer (List Component)) (n p : ℕ) → refuses n p ≡ named limit a → refuses n p ≡ a
+named-refused limit (gives cs) n p h = refuses-not h
+named-refused limit (refuses m q) n p h = refuses-as h
 
 -- ## The parent
 

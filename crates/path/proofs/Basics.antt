@@ -1,19 +1,15 @@
 -- A path argument: what memory holds, or 26; and an answer by another name.
 use mathlib.Core.Path.{◌≡◌, ◌∙◌, ap}
-use mathlib.Core.Bool.{Bool, true, false}
+use mathlib.Core.Bool.{true, false}
 use mathlib.Core.List.{List}
 use Prim.Native.Nat.{ℕ}
 use Rattle.pkg_length.specs.Refusal.{Answer, gives, refuses, and_then}
 use Rattle.name_object.specs.Component.{Component}
-use Rattle.name_object.specs.Memory.{Told, told, path_ok, path_of_name, path_in_answer}
+use Rattle.name_object.specs.Memory.{named, path_ok, path_of_name, path_in_answer}
 use Rattle.name_object.specs.declared.AmlName.{AmlName}
-use Rattle.path.specs.Normal.{alone}
 
-pub same-told : {m n : AmlName} {a b : Answer (Unit {0})} → m ≡ n → a ≡ b → ◌≡◌ {A = Told (Unit {0})} (record { memory = m; said = a }) (record { memory = n; said = b })
-same-told e f = λ i. record { memory = e i; said = f i }
-
-pub answers-as : (limit : ℕ) {a b : Answer (List Component)} {t : Told (Unit {0})} → a ≡ b → t ≡ told limit (alone a) → t ≡ told limit (alone b)
-answers-as limit e h = h ∙ ap (λ (x : Answer (List Component)). told limit (alone x)) e
+pub answers-as : (limit : ℕ) {a b : Answer (List Component)} {t : Answer AmlName} → a ≡ b → t ≡ named limit a → t ≡ named limit b
+answers-as limit e h = h ∙ ap (named limit) e
 
 module _ {B : Type 0} (limit : ℕ) (name : AmlName) (next : List Component → Answer B) where
   pub path-good : path_ok limit name ≡ true → next (path_of_name name) ≡ and_then (path_in_answer limit name) next
@@ -23,11 +19,6 @@ module _ {B : Type 0} (limit : ℕ) (name : AmlName) (next : List Component → 
   pub path-bad : path_ok limit name ≡ false → refuses 26 0 ≡ and_then (path_in_answer limit name) next
   unfolding path_in_answer
   path-bad h = rw h
-
--- a test of a path
-pub flag_is : (limit : ℕ) (name : AmlName) (f : List Component → Bool) {r : Bool} → path_ok limit name ≡ true → r ≡ f (path_of_name name) →
-    gives r ≡ and_then (path_in_answer limit name) (λ cs. gives (f cs))
-flag_is limit name f h e = ap gives e ∙ path-good limit name (λ cs. gives (f cs)) h
 
 -- what memory holds, and nothing more
 module _ (limit : ℕ) (name : AmlName) where

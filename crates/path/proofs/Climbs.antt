@@ -1,5 +1,5 @@
 -- A walk in memory: a law for each way that a step goes, and where a walk stands after i components.
-use mathlib.Core.Path.{◌≡◌, refl, sym, ◌∙◌, ap, subst, subst₂}
+use mathlib.Core.Path.{◌≡◌, refl, sym, ◌∙◌, ap, subst₂}
 use mathlib.Core.Bool.{Bool, true, false, not, ◌||◌}
 use mathlib.Core.List.{List, [], ◌∷◌}
 use Prim.Native.Nat.{ℕ, suc, ◌+◌, ◌-◌, ◌*◌, ◌≤◌, ◌<◌}
@@ -8,26 +8,29 @@ use lib.Dec.{eqb}
 use lib.ListN.{length, get_or, take, drop, take-append-drop}
 use lib.Seq.{take-suc, take_all, drop-cons}
 use borrow.Author.Tests.{eq-eqb, ne_eqb}
-use Rattle.pkg_length.specs.Refusal.{Answer, gives, refuses}
+use Rattle.std.specs.Prelude.{Result, Ok}
+use Rattle.pkg_length.specs.Refusal.{Answer, gives, refuses, refused}
+use Rattle.pkg_length.specs.declared.AmlError.{AmlError}
 use Rattle.pkg_length.proofs.Answers.{halves, never, wrong}
 use Rattle.name_object.specs.Component.{Component, root, up, seg, is_seg_ok, fine, spell_one}
-use Rattle.name_object.specs.Memory.{zeros}
-use Rattle.name_object.specs.declared.AmlName.{AmlName}
 use Rattle.name_object.proofs.Paths.{seg-lead, lead-marks}
-use Rattle.path.specs.declared.climb.Climb.{Climb}
 use Rattle.path.specs.Normal.{step, walk, upright, absolute}
-use Rattle.path.specs.Inside.{placed, standing, segment_last, fresh, Shows, Climbed, Stepped, Walked}
-use Rattle.path.proofs.Shown.{shown-none, shown-push, shown-pop, shown-last}
+use Rattle.path.specs.Inside.{shown, placed, standing, segment_last, fresh, Shows, Climbed}
+use Rattle.path.proofs.Shown.{shown-push, shown-pop, shown-last}
 use Rattle.path.proofs.Walks.{walk-append, walk_refused, length-upright, upright-cons, fine-any, fine-tail, fine-front, seg-of, step-good}
 
 -- what the first byte tells
-pub is_up : (x : Component) (a b c d : ℕ) (f : Bool) → spell_one x ≡ a ∷ b ∷ c ∷ d ∷ [] → fine f (x ∷ []) ≡ true → a ≡ 0x5E → x ≡ up
-is_up root a b c d f e h k = absurd (let z : 0x5C ≡ a = cc in omega arith)
-is_up up a b c d f e h k = refl
-is_up (seg p q r s) a b c d f e h k = absurd ((lead-marks p (seg-lead p q r s (seg-of p q r s f h))).1 (cc))
+first_of : (x : Component) (four : List ℕ) → spell_one x ≡ four → get_or (spell_one x) 0 0 ≡ get_or four 0 0
+first_of x four e = ap (λ (l : List ℕ). get_or l 0 0) e
 
-pub not-up : (x : Component) (a b c d : ℕ) → spell_one x ≡ a ∷ b ∷ c ∷ d ∷ [] → (a ≡ 0x5E → ⊥) → x ≡ up → ⊥
-not-up x a b c d e k u = k (let z : spell_one up ≡ a ∷ b ∷ c ∷ d ∷ [] = rw u at e in cc)
+pub is_up : (x : Component) (four : List ℕ) (f : Bool) → spell_one x ≡ four → fine f (x ∷ []) ≡ true → get_or four 0 0 ≡ 0x5E → x ≡ up
+is_up root four f e h k = absurd (let z : 0x5C ≡ get_or four 0 0 = first_of root four e in omega arith)
+is_up up four f e h k = refl
+is_up (seg p q r s) four f e h k =
+    absurd ((lead-marks p (seg-lead p q r s (seg-of p q r s f h))).1 (first_of (seg p q r s) four e ∙ k))
+
+pub not-up : (x : Component) (four : List ℕ) → spell_one x ≡ four → (get_or four 0 0 ≡ 0x5E → ⊥) → x ≡ up → ⊥
+not-up x four e k u = k (sym (first_of x four e) ∙ ap (λ (y : Component). get_or (spell_one y) 0 0) u)
 
 step_push : (done : List Component) (x : Component) → (x ≡ up → ⊥) → step (gives done) x ≡ gives (x ∷ done)
 unfolding step
@@ -37,15 +40,15 @@ step_push done (seg a b c d) n = refl
 
 module _ (limit : ℕ) (out : List ℕ) (high : ℕ) (done : List Component) (s : Shows limit out high done) where
   -- one more stands
-  pub climb-push : (x : Component) (a b c d : ℕ) → fine (fresh done) (x ∷ []) ≡ true → spell_one x ≡ a ∷ b ∷ c ∷ d ∷ [] → (x ≡ up → ⊥) →
-      Climbed limit (placed limit out high a b c d) (Climb.High (high + 1)) (step (gives done) x)
-  climb-push x a b c d f e n =
+  pub climb-push : (x : Component) (four : List ℕ) → fine (fresh done) (x ∷ []) ≡ true → spell_one x ≡ four → (x ≡ up → ⊥) →
+      Climbed limit (placed limit out high four) (Ok (high + 1)) (step (gives done) x)
+  climb-push x four f e n =
       let h : high ≡ length (upright done) = s.height ∙ sym (length-upright done) in
       let p = step_push done x n in (
         x ∷ done,
         p,
         record {
-          memory = rw (h, s.memory, upright-cons x done) (shown-push limit (upright done) x a b c d e);
+          memory = rw (h, s.memory, upright-cons x done) (shown-push limit (upright done) x four e);
           height = omega (arith, s.height);
           rooted = absolute (x ∷ []) || s.rooted;
           good = step-good s.rooted done (x ∷ done) x s.good f p;
@@ -53,11 +56,11 @@ module _ (limit : ℕ) (out : List ℕ) (high : ℕ) (done : List Component) (s 
       )
 
   -- the last segment is taken away
-  pub climb-pop : segment_last done ≡ true → Climbed limit (placed limit out (high - 1) 0 0 0 0) (Climb.High (high - 1)) (step (gives done) up)
+  pub climb-pop : segment_last done ≡ true → Climbed limit (placed limit out (high - 1) (0 ∷ 0 ∷ 0 ∷ 0 ∷ [])) (Ok (high - 1)) (step (gives done) up)
   unfolding step standing
   climb-pop l = go done s l
     where
-      go : (done : List Component) → Shows limit out high done → segment_last done ≡ true → Climbed limit (placed limit out (high - 1) 0 0 0 0) (Climb.High (high - 1)) (step (gives done) up)
+      go : (done : List Component) → Shows limit out high done → segment_last done ≡ true → Climbed limit (placed limit out (high - 1) (0 ∷ 0 ∷ 0 ∷ 0 ∷ [])) (Ok (high - 1)) (step (gives done) up)
       go [] s l = never l
       go (root ∷ done) s l = never l
       go (up ∷ done) s l = never l
@@ -66,7 +69,7 @@ module _ (limit : ℕ) (out : List ℕ) (high : ℕ) (done : List Component) (s 
             done,
             refl,
             record {
-              memory = rw (h, s.memory, upright-cons (seg a b c d) done) (shown-pop limit (upright done) (seg a b c d) a b c d refl);
+              memory = rw (h, s.memory, upright-cons (seg a b c d) done) (shown-pop limit (upright done) (seg a b c d));
               height = omega (arith, s.height);
               rooted = s.rooted;
               good = (halves (is_seg_ok a b c d) (standing s.rooted done) s.good).1;
@@ -122,20 +125,14 @@ module _ (limit : ℕ) (out : List ℕ) (high : ℕ) (done : List Component) (s 
           let k = lead-marks a (seg-lead a b c d (halves (is_seg_ok a b c d) (standing s.rooted rest) s.good).0) in
           ap not (ne_eqb (get_or out (4 * (high - 1)) 0) 0x5C (λ e. k.0 (sym (byte (seg a b c d) rest s a b c d refl) ∙ e)))
 
--- nothing stands in zeros
-pub shows-none : (limit : ℕ) → Shows limit (zeros (4 * limit)) 0 []
+-- nothing stands in the empty path
+pub shows-none : (limit : ℕ) (bytes : List ℕ) → bytes ≡ shown limit [] → Shows limit bytes 0 []
 unfolding standing upright
-shows-none limit = record { memory = shown-none limit; height = refl; rooted = false; good = refl }
+shows-none limit bytes e = record { memory = e; height = refl; rooted = false; good = refl }
 
 -- the same, by other names
-pub climbed-as : (limit : ℕ) (r : Climb) {o p : List ℕ} {v w : Answer (List Component)} → o ≡ p → v ≡ w → Climbed limit p r w → Climbed limit o r v
+pub climbed-as : (limit : ℕ) (r : Result ℕ AmlError) {o p : List ℕ} {v w : Answer (List Component)} → o ≡ p → v ≡ w → Climbed limit p r w → Climbed limit o r v
 climbed-as limit r e f h = subst₂ (λ (o : List ℕ) (w : Answer (List Component)). Climbed limit o r w) (sym e) (sym f) h
-
-pub stepped-as : {limit : ℕ} {o p : List ℕ} {high a b c d : ℕ} {r q : Climb} → r ≡ q → Stepped limit o high a b c d p r → Stepped limit o high a b c d p q
-stepped-as {limit} {o} {p} {high} {a} {b} {c} {d} e h = subst (λ (r : Climb). Stepped limit o high a b c d p r) e h
-
-pub walked_as : {limit : ℕ} {o p : List ℕ} {start : ℕ} {path : AmlName} {r q : Climb} → r ≡ q → Walked limit o start path p r → Walked limit o start path p q
-walked_as {limit} {o} {p} {start} {path} e h = subst (λ (r : Climb). Walked limit o start path p r) e h
 
 -- where a walk over cs stands after i components
 pub record Along (limit : ℕ) (out : List ℕ) (high : ℕ) (done cs : List Component) (i : ℕ) : Type 0 where
@@ -165,7 +162,7 @@ module _ (limit : ℕ) (done cs : List Component) (i : ℕ) (h : i < length cs) 
   pub along-fine : fine (fresh a.now) (get_or cs i up ∷ []) ≡ true
   along-fine = fine-front (fresh a.now) (get_or cs i up ∷ []) (drop (suc i) cs) next-fine
 
-  pub along-next : (out' : List ℕ) (n : ℕ) → Climbed limit out' (Climb.High n) (step (gives a.now) (get_or cs i up)) → Along limit out' n done cs (i + 1)
+  pub along-next : (out' : List ℕ) (n : ℕ) → Climbed limit out' (Ok n) (step (gives a.now) (get_or cs i up)) → Along limit out' n done cs (i + 1)
   along-next out' n c =
       let e : i + 1 ≡ suc i = omega arith in
       record {
@@ -175,13 +172,13 @@ module _ (limit : ℕ) (done cs : List Component) (i : ℕ) (h : i < length cs) 
         left = rw e (fine-any (fresh c.0) (drop (suc i) cs) (fine-tail (fresh a.now) (get_or cs i up) (drop (suc i) cs) next-fine));
       }
 
-  pub along-stop : step (gives a.now) (get_or cs i up) ≡ refuses 10 0 → walk (gives done) cs ≡ refuses 10 0
-  along-stop e =
+  pub along-stop : (d : AmlError) → step (gives a.now) (get_or cs i up) ≡ refused d → walk (gives done) cs ≡ refused d
+  along-stop d e =
       ap (walk (gives done)) (sym (take-append-drop (i + 1) cs))
       ∙ walk-append (gives done) (take (i + 1) cs) (drop (i + 1) cs)
       ∙ ap (λ (w : Answer (List Component)). walk w (drop (i + 1) cs)) (walk-next ∙ e)
-      ∙ walk_refused (drop (i + 1) cs) 10 0
+      ∙ walk_refused (drop (i + 1) cs) _ _
 
 pub along-all : (limit : ℕ) (out : List ℕ) (high : ℕ) (done cs : List Component) (i : ℕ) → length cs ≤ i → Along limit out high done cs i →
-    Climbed limit out (Climb.High high) (walk (gives done) cs)
+    Climbed limit out (Ok high) (walk (gives done) cs)
 along-all limit out high done cs i h a = (a.now, sym (ap (walk (gives done)) (take_all i cs h)) ∙ a.here, a.shows)

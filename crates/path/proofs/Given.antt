@@ -1,5 +1,5 @@
--- What every call hands back passes the test of a path, also beside a refusal: so no layer above need test a path that a call made.
--- A call gives components that are fine and within the limit, from a path that is so; the empty path, which stands beside a refusal, is a path.
+-- What every call hands over passes the test of a path, and so does the empty path, which stands for it where the call refuses:
+-- so no layer above need test a path that a call made. A call gives components that are fine and within the limit, from a path that is so.
 use mathlib.Core.Path.{◌≡◌, refl, sym, ◌∙◌, ap}
 use mathlib.Core.Bool.{Bool, true, false, cond}
 use mathlib.Core.List.{List, [], ◌∷◌, drop_last}
@@ -9,10 +9,10 @@ use lib.ListN.{length, get_or, length-append}
 use Rattle.pkg_length.specs.Refusal.{Answer, gives, refuses, and_then}
 use Rattle.pkg_length.proofs.Answers.{refuses-not, gives_same}
 use Rattle.name_object.specs.Component.{Component, root, seg, is_seg_ok, fine}
-use Rattle.name_object.specs.Memory.{name_of, popped, path_ok, path_of_name, path_in_answer, told}
+use Rattle.name_object.specs.Memory.{name_of, popped, path_ok, path_of_name, path_in_answer, named, handed}
 use Rattle.name_object.specs.declared.AmlName.{AmlName}
-use Rattle.name_object.proofs.Paths.{path-fine, fine-path, told-is-path}
-use Rattle.path.specs.Normal.{normal, resolved, top, parent_of, segment_path, alone}
+use Rattle.name_object.proofs.Paths.{path-fine, fine-path, named-is-path}
+use Rattle.path.specs.Normal.{normal, resolved, top, parent_of, segment_path}
 use Rattle.path.specs.Text.{from_text}
 use Rattle.path.proofs.Walks.{length-path, fine-front}
 use Rattle.path.proofs.Laws.{normalised, resolved-kept, parent-less}
@@ -28,11 +28,13 @@ pub record Good (limit : ℕ) (cs : List Component) : Type 0 where
 Gives : ℕ → Answer (List Component) → Type 0
 Gives limit a = (cs : List Component) → a ≡ gives cs → Good limit cs
 
--- an answer that gives such components has a path in memory, whatever it says
-handed : (limit : ℕ) (a : Answer (List Component)) → Gives limit a → path_ok limit (told limit (alone a)).memory ≡ true
+-- an answer that gives such components hands over a path, whatever it says
+abbrev pub HandsPath : ℕ → Answer (List Component) → Type 0
+HandsPath limit a = path_ok limit (handed limit (λ name. name) (named limit a)) ≡ true
+
+hands-path : (limit : ℕ) (a : Answer (List Component)) → Gives limit a → HandsPath limit a
 unfolding Gives
-handed limit (gives cs) k = let g = k cs refl in (fine-path limit cs g.good g.room).0
-handed limit (refuses n p) k = told-is-path {A = Unit {0}} limit (refuses n p) (λ v h. refuses-not h)
+hands-path limit a k = named-is-path limit a (λ cs e. let g = k cs e in (g.good, g.room))
 
 -- memory that a call is lent: what follows is asked only of a path
 in_path : (limit : ℕ) (name : AmlName) (f : List Component → Answer (List Component)) → ((cs : List Component) → Good limit cs → Gives limit (f cs)) →
@@ -76,36 +78,36 @@ module _ (limit : ℕ) (name m : AmlName) (ns : List Component) (e : and_then (p
 -- ## The calls
 
 module _ (limit : ℕ) where
-  pub text-is-path : (text : List ℕ) → path_ok limit (told limit (alone (from_text limit text))).memory ≡ true
+  pub text-is-path : (text : List ℕ) → HandsPath limit (from_text limit text)
   unfolding Gives
-  text-is-path text = handed limit (from_text limit text) (λ cs h. let t = text-sound limit text cs h in record { good = text-fine t.0; room = t.1 })
+  text-is-path text = hands-path limit (from_text limit text) (λ cs h. let t = text-sound limit text cs h in record { good = text-fine t.0; room = t.1 })
 
-  pub components-is-path : (name : AmlName) → path_ok limit (told limit (alone (path_in_answer limit name))).memory ≡ true
+  pub components-is-path : (name : AmlName) → HandsPath limit (path_in_answer limit name)
   unfolding Gives
   components-is-path name =
-      handed limit (path_in_answer limit name) (λ cs h. in_path limit name gives (λ ds g es k. rw (gives_same k) at g) cs (ap (λ (a : Answer (List Component)). and_then a gives) h))
+      hands-path limit (path_in_answer limit name) (λ cs h. in_path limit name gives (λ ds g es k. rw (gives_same k) at g) cs (ap (λ (a : Answer (List Component)). and_then a gives) h))
 
-  pub normal-is-path : (name : AmlName) → path_ok limit (told limit (alone (and_then (path_in_answer limit name) (normal limit)))).memory ≡ true
-  normal-is-path name = handed limit _ (normal-good limit name)
+  pub normal-is-path : (name : AmlName) → HandsPath limit (and_then (path_in_answer limit name) (normal limit))
+  normal-is-path name = hands-path limit _ (normal-good limit name)
 
-  pub parent-is-path : (name : AmlName) → path_ok limit (told limit (alone (and_then (path_in_answer limit name) (parent_of limit)))).memory ≡ true
+  pub parent-is-path : (name : AmlName) → HandsPath limit (and_then (path_in_answer limit name) (parent_of limit))
   unfolding Gives
   parent-is-path name =
-      handed limit _ (in_path limit name (parent_of limit) (λ cs g ds h.
+      hands-path limit _ (in_path limit name (parent_of limit) (λ cs g ds h.
       let p = parent-less limit cs ds h in
       let n = normalised limit cs p.0 g.good p.2 in
       record { good = fine-front true ds (p.1 ∷ []) (rw p.3 at n.good); room = omega (arith, n.room, ap length p.3, length-append ds (p.1 ∷ [])) }))
 
   pub resolved-is-path : (name scope : AmlName) →
-      path_ok limit (told limit (alone (and_then (path_in_answer limit name) (λ cs. and_then (path_in_answer limit scope) (λ ss. resolved limit cs ss))))).memory ≡ true
+      HandsPath limit (and_then (path_in_answer limit name) (λ cs. and_then (path_in_answer limit scope) (λ ss. resolved limit cs ss)))
   unfolding Gives
   resolved-is-path name scope =
-      handed limit _ (in_path limit name _ (λ cs g. in_path limit scope (resolved limit cs) (λ ss k ds h.
+      hands-path limit _ (in_path limit name _ (λ cs g. in_path limit scope (resolved limit cs) (λ ss k ds h.
       let r = resolved-kept limit cs ss ds g.good k.good h in record { good = r.good; room = r.room })))
 
-  pub segment-is-path : (bs : List ℕ) → 0 < limit → path_ok limit (told limit (alone (segment_path bs))).memory ≡ true
+  pub segment-is-path : (bs : List ℕ) → 0 < limit → HandsPath limit (segment_path bs)
   unfolding Gives segment_path
-  segment-is-path bs l = handed limit _ (λ cs h. go (is_seg_ok (get_or bs 0 0) (get_or bs 1 0) (get_or bs 2 0) (get_or bs 3 0)) refl cs h)
+  segment-is-path bs l = hands-path limit _ (λ cs h. go (is_seg_ok (get_or bs 0 0) (get_or bs 1 0) (get_or bs 2 0) (get_or bs 3 0)) refl cs h)
     where
       go : (t : Bool) → is_seg_ok (get_or bs 0 0) (get_or bs 1 0) (get_or bs 2 0) (get_or bs 3 0) ≡ t → (cs : List Component) →
           cond t (gives (seg (get_or bs 0 0) (get_or bs 1 0) (get_or bs 2 0) (get_or bs 3 0) ∷ [])) (refuses 26 0) ≡ gives cs → Good limit cs

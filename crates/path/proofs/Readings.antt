@@ -12,10 +12,11 @@ use Rattle.pkg_length.specs.Refusal.{Answer, gives, refuses, and_then}
 use Rattle.name_object.specs.Component.{Component, root, up, lead_ok, char_ok, spell_one}
 use Rattle.path.specs.Normal.{limited}
 use Rattle.path.specs.Text.{before, inside, padded, consed, reading, after_root, text_path, from_text}
-use Rattle.path.specs.Inside.{shown, placed, placed_char, root_of, after, Between, Within, OnWay, Ended, Turns}
+use Rattle.path.specs.Inside.{shown, placed, placed_char, root_of, after, Between, Within, OnWay, Ended}
+use Rattle.name_object.specs.declared.AmlName.{AmlName}
 use Rattle.path.specs.declared.text.Reading.{Reading}
-use Rattle.path.specs.declared.text.Turn.{Turn}
-use Rattle.path.specs.declared.text.PartsEnd.{PartsEnd}
+use Rattle.pkg_length.specs.declared.AmlError.{AmlError}
+use Rattle.std.specs.Prelude.{Ok, Err}
 use Rattle.path.proofs.Shown.{shown-push, shown-char, length-one}
 
 -- ## How the definition reads a byte
@@ -87,17 +88,17 @@ module _ {limit : ℕ} {out : List ℕ} {n i : ℕ} {rest : List ℕ} {whole : A
 module _ (limit : ℕ) (out : List ℕ) (s : Reading) (i b : ℕ) (rest : List ℕ) (whole : Answer (List Component)) (o : OnWay limit out s i (b ∷ rest) whole) where
   -- a byte where a `^` or a segment may start
   module _ (z : s.chars ≡ 0) where
-    pub start_up : b ≡ 0x5E → OnWay limit (placed limit out s.count b 0 0 0) (record { count = s.count + 1; chars = 0 }) (suc i) rest whole
+    pub start_up : b ≡ 0x5E → OnWay limit (placed limit out s.count (b ∷ 0 ∷ 0 ∷ 0 ∷ [])) (record { count = s.count + 1; chars = 0 }) (suc i) rest whole
     start_up e =
         let w = o.between z in
         now-between (record {
           done = w.done ++ (up ∷ []);
           count = omega (arith, w.count, length-one w.done up);
-          memory = rw (w.count, w.memory) (shown-push limit w.done up b 0 0 0 (ap (λ (n : ℕ). n ∷ 0 ∷ 0 ∷ 0 ∷ []) (sym e)));
+          memory = rw (w.count, w.memory) (shown-push limit w.done up (b ∷ 0 ∷ 0 ∷ 0 ∷ []) (ap (λ (n : ℕ). n ∷ 0 ∷ 0 ∷ 0 ∷ []) (sym e)));
           left = after_one w.done up (reading before (suc i) rest) ∙ ap (after w.done) (sym (read_up i b rest e)) ∙ w.left;
         })
 
-    pub start-lead : (b ≡ 0x5E → ⊥) → lead_ok b ≡ true → OnWay limit (placed limit out s.count b 0x5F 0x5F 0x5F) (record { count = s.count; chars = 1 }) (suc i) rest whole
+    pub start-lead : (b ≡ 0x5E → ⊥) → lead_ok b ≡ true → OnWay limit (placed limit out s.count (b ∷ 0x5F ∷ 0x5F ∷ 0x5F ∷ [])) (record { count = s.count; chars = 1 }) (suc i) rest whole
     start-lead n k =
         let w = o.between z in
         now-within (omega arith) (record {
@@ -108,7 +109,7 @@ module _ (limit : ℕ) (out : List ℕ) (s : Reading) (i b : ℕ) (rest : List �
           chars = refl;
           most = omega arith;
           here = omega arith;
-          memory = rw (w.count, w.memory) (shown-push limit w.done (padded (b ∷ [])) b 0x5F 0x5F 0x5F (padded-one b));
+          memory = rw (w.count, w.memory) (shown-push limit w.done (padded (b ∷ [])) (b ∷ 0x5F ∷ 0x5F ∷ 0x5F ∷ []) (padded-one b));
           left = ap (after w.done) (sym (read-lead i b rest n k)) ∙ w.left;
         })
 
@@ -168,12 +169,6 @@ module _ (limit : ℕ) (out : List ℕ) (s : Reading) (i b : ℕ) (rest : List �
 pub way-memory : {limit : ℕ} {o p : List ℕ} {s : Reading} {i : ℕ} {rest : List ℕ} {whole : Answer (List Component)} → o ≡ p → OnWay limit p s i rest whole → OnWay limit o s i rest whole
 way-memory {limit} {o} {p} {s} {i} {rest} {whole} e h = subst (λ (x : List ℕ). OnWay limit x s i rest whole) (sym e) h
 
-pub turns_as : {limit : ℕ} {o p : List ℕ} {s : Reading} {b : ℕ} {r q : Turn} → r ≡ q → Turns limit o s b p r → Turns limit o s b p q
-turns_as {limit} {o} {p} {s} {b} e h = subst (λ (r : Turn). Turns limit o s b p r) e h
-
-pub ended-as : (limit : ℕ) (out : List ℕ) (whole : Answer (List Component)) {r q : PartsEnd} → r ≡ q → Ended limit out r whole → Ended limit out q whole
-ended-as limit out whole e h = subst (λ (x : PartsEnd). Ended limit out x whole) e h
-
 -- where a reader stands before a text, in it, and at its end
 pub way-start : (limit : ℕ) (out : List ℕ) (from : ℕ) (text : List ℕ) (done : List Component) → out ≡ shown limit done → from ≡ length done →
     OnWay limit out (record { count = from; chars = 0 }) from (drop from text) (after done (reading before from (drop from text)))
@@ -187,11 +182,11 @@ module _ (limit : ℕ) (out : List ℕ) (s : Reading) (i : ℕ) (text : List ℕ
   way_on o = let e : i + 1 ≡ suc i = omega arith in rw e o
 
   module _ (h : length text ≤ i) (o : OnWay limit out s i (drop i text) whole) where
-    pub end_before : s.chars ≡ 0 → Ended limit out (PartsEnd.Wrong i) whole
+    pub end_before : s.chars ≡ 0 → Ended limit out (Err (AmlError.InvalidNameSeg i)) whole
     unfolding reading
     end_before z = let w = o.between z in sym w.left ∙ rw (drop_of_length-le text h)
 
-    pub end-inside : (s.chars ≡ 0 → ⊥) → Ended limit out (PartsEnd.Count (s.count + 1)) whole
+    pub end-inside : (s.chars ≡ 0 → ⊥) → Ended limit out (Ok (s.count + 1)) whole
     unfolding reading
     end-inside z =
         let w = o.within z in
@@ -261,3 +256,31 @@ module _ (text : List ℕ) (from : ℕ) (some : 0 < length text) (e : from ≡ l
 pub text-by : (limit : ℕ) (text : List ℕ) {w : Answer (List Component)} → text_path text ≡ w → and_then w (limited limit) ≡ from_text limit text
 unfolding from_text
 text-by limit text e = rw e
+
+-- what a text is read into
+pub record TextMade (limit : ℕ) (text : List ℕ) (m : AmlName) : Type 0 where
+  pub cs : List Component
+  pub is : text_path text ≡ gives cs
+  pub memory : m.bytes ≡ shown limit cs
+  pub count : m.count ≡ length cs
+
+module _ (limit : ℕ) (text : List ℕ) (m : AmlName) (from : ℕ) (some : 0 < length text) (e : from ≡ length (root_of (get_or text 0 0))) where
+  pub root-made : (bytes : List ℕ) → m ≡ record { count = from; bytes = bytes } → bytes ≡ shown limit (root_of (get_or text 0 0)) → length text ≤ from → TextMade limit text m
+  root-made bytes k b l =
+      let h : length text ≡ from = omega (arith, root-short (get_or text 0 0)) in
+      record {
+        cs = root_of (get_or text 0 0);
+        is = root_by text from some e h;
+        memory = ap (λ (n : AmlName). n.bytes) k ∙ b;
+        count = ap (λ (n : AmlName). n.count) k ∙ e;
+      }
+
+  pub parts-made : (count : ℕ) (bytes : List ℕ) → m ≡ record { count = count; bytes = bytes } → from < length text →
+      Ended limit bytes (Ok count) (after (root_of (get_or text 0 0)) (reading before from (drop from text))) → TextMade limit text m
+  parts-made count bytes k l w =
+      record {
+        cs = w.0;
+        is = parts-by text from some e (λ h. omega arith) ∙ w.1;
+        memory = ap (λ (n : AmlName). n.bytes) k ∙ w.3;
+        count = ap (λ (n : AmlName). n.count) k ∙ w.2;
+      }

@@ -9,9 +9,14 @@ use lib.ListN.{length, get_or, set, length-append}
 use lib.Seq.{take_all, take-append-le, get_or-append_seam}
 use borrow.Author.Tests.{ltb-true, ltb-false}
 use Rattle.name_object.specs.Component.{Component, up, spell_one, spell}
-use Rattle.name_object.specs.Memory.{name_of, zeros, put4, pushed, popped}
+use Rattle.name_object.specs.Memory.{name_of, named, put4, pushed, popped}
 use Rattle.name_object.specs.declared.AmlName.{AmlName}
-use Rattle.name_object.proofs.Memory.{push-one, pop-one, read_at, length-spell, spell-append}
+use Rattle.name_object.proofs.Memory.{same_name, one-view, push-one, pop-one, read_at, length-spell, spell-append}
+use Rattle.pkg_length.specs.Refusal.{Answer, gives, refused}
+use Rattle.pkg_length.specs.declared.AmlError.{AmlError}
+use Rattle.pkg_length.specs.declared.AmlError.TheVariants.{TooManyComponents}
+use Rattle.path.specs.Normal.{limited}
+use Rattle.path.proofs.Walks.{limited-in, limited-over}
 use Rattle.path.specs.Inside.{shown, placed, placed_char}
 
 bytes_of : AmlName → List ℕ
@@ -38,9 +43,9 @@ where-room k limit new old whole f g = go (ltb k limit) refl
 
 module _ (limit : ℕ) (cs : List Component) (x : Component) where
   -- one component more
-  pub shown-push : (a b c d : ℕ) → spell_one x ≡ a ∷ b ∷ c ∷ d ∷ [] → placed limit (shown limit cs) (length cs) a b c d ≡ shown limit (cs ++ (x ∷ []))
+  push-four : (a b c d : ℕ) → spell_one x ≡ a ∷ b ∷ c ∷ d ∷ [] → placed limit (shown limit cs) (length cs) (a ∷ b ∷ c ∷ d ∷ []) ≡ shown limit (cs ++ (x ∷ []))
   unfolding placed name_of pushed bytes_of
-  shown-push a b c d e = where-room (length cs) limit _ _ _ room (λ l. sym (shown-more limit cs x l))
+  push-four a b c d e = where-room (length cs) limit _ _ _ room (λ l. sym (shown-more limit cs x l))
     where
       room : length cs < limit → put4 (shown limit cs) (4 * length cs) a b c d ≡ shown limit (cs ++ (x ∷ []))
       room h =
@@ -48,17 +53,23 @@ module _ (limit : ℕ) (cs : List Component) (x : Component) where
           ∙ ap bytes_of (push-one limit cs x a b c d h e)
           ∙ sym (shown-fits limit (cs ++ (x ∷ [])) (omega (arith, length-one cs x)))
 
+  pub shown-push : (four : List ℕ) → spell_one x ≡ four → placed limit (shown limit cs) (length cs) four ≡ shown limit (cs ++ (x ∷ []))
+  shown-push four e =
+      let v = one-view x in
+      let f : four ≡ v.0 ∷ v.1 ∷ v.2 ∷ v.3 ∷ [] = sym e ∙ v.4 in
+      rw f (push-four v.0 v.1 v.2 v.3 v.4)
+
   -- the last one away
-  pub shown-pop : (a b c d : ℕ) → spell_one x ≡ a ∷ b ∷ c ∷ d ∷ [] → placed limit (shown limit (cs ++ (x ∷ []))) (length cs) 0 0 0 0 ≡ shown limit cs
+  pub shown-pop : placed limit (shown limit (cs ++ (x ∷ []))) (length cs) (0 ∷ 0 ∷ 0 ∷ 0 ∷ []) ≡ shown limit cs
   unfolding placed name_of popped bytes_of
-  shown-pop a b c d e = where-room (length cs) limit _ _ _ room (shown-more limit cs x)
+  shown-pop = where-room (length cs) limit _ _ _ room (shown-more limit cs x)
     where
       room : length cs < limit → put4 (shown limit (cs ++ (x ∷ []))) (4 * length cs) 0 0 0 0 ≡ shown limit cs
       room h =
           let n : length cs ≡ length (cs ++ (x ∷ [])) - 1 = omega (arith, length-one cs x) in
           ap (λ (l : List ℕ). put4 l (4 * length cs) 0 0 0 0) (shown-fits limit (cs ++ (x ∷ [])) (omega (arith, length-one cs x)))
           ∙ ap (λ (k : ℕ). put4 (name_of limit (cs ++ (x ∷ []))).bytes (4 * k) 0 0 0 0) n
-          ∙ ap bytes_of (pop-one limit cs x a b c d h e)
+          ∙ ap bytes_of (let v = one-view x in pop-one limit cs x v.0 v.1 v.2 v.3 h v.4)
           ∙ sym (shown-fits limit cs (omega arith))
 
   -- the bytes of the last one
@@ -98,10 +109,21 @@ shown-char limit cs x y j b g e = where-room (length cs) limit _ _ _ room (λ l.
         ∙ set-in (spell cs) (spell_one x) _ (4 * length cs) j b (length-spell cs) g
         ∙ sym (append_assoc (spell cs) (set (spell_one x) j b) _))
 
-pub shown-none : (limit : ℕ) → zeros (4 * limit) ≡ shown limit []
-unfolding shown name_of spell
-shown-none limit = let e : limit - 0 ≡ limit = omega arith in sym (empty limit ∙ ap (λ (n : ℕ). zeros (4 * n)) e)
-  where
-    empty : (limit : ℕ) → shown limit [] ≡ zeros (4 * (limit - 0))
-    empty zero = refl
-    empty (suc n) = refl
+-- ## The path that was made
+
+pub made-none : (limit : ℕ) (m : AmlName) → m ≡ name_of limit [] → m.bytes ≡ shown limit []
+unfolding bytes_of
+made-none limit m e = ap bytes_of e ∙ sym (shown-fits limit [] (omega arith))
+
+module _ (limit : ℕ) (cs : List Component) where
+  pub made-path : (count : ℕ) (bytes : List ℕ) → bytes ≡ shown limit cs → count ≡ length cs → count ≤ limit →
+      ◌≡◌ {A = Answer AmlName} (gives (record { count = count; bytes = bytes })) (named limit (limited limit cs))
+  unfolding name_of
+  made-path count bytes b n l =
+      let k : length cs ≤ limit = omega arith in
+      ap gives (same_name n (b ∙ shown-fits limit cs k)) ∙ ap (named limit) (sym (limited-in limit cs k))
+
+  pub made-over : (count : ℕ) (e : AmlError) → count ≡ length cs → (limit < count) × (e ≡ TooManyComponents) → refused e ≡ named limit (limited limit cs)
+  made-over count e n h =
+      let k : limit < length cs = omega (arith, h.0) in
+      ap refused h.1 ∙ ap (named limit) (sym (limited-over limit cs k))

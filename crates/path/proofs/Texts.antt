@@ -12,10 +12,10 @@ use borrow.Author.Tests.{eqb-true, ltb-true, le-leb}
 use Rattle.pkg_length.specs.Refusal.{Answer, gives, refuses, and_then}
 use Rattle.pkg_length.proofs.Answers.{unlike, refuses-not, gives_same, then-gives}
 use Rattle.name_object.specs.Component.{Component, root, up, lead_ok, digit_ok, char_ok, is_seg_ok, fine}
-use Rattle.name_object.specs.Memory.{name_of, path_in_answer, Told, told}
+use Rattle.name_object.specs.Memory.{name_of, path_in_answer, named}
 use Rattle.name_object.specs.declared.AmlName.{AmlName}
 use Rattle.name_object.proofs.Paths.{path-back, fine-later, lead-marks}
-use Rattle.path.specs.Normal.{limited, alone}
+use Rattle.path.specs.Normal.{limited}
 use Rattle.pkg_length.specs.Wrote.{Wrote, wrote}
 use Rattle.path.specs.Text.{Place, before, inside, padded, consed, reading, after_root, text_path, from_text, text_of, text_within}
 use Rattle.path.specs.TextGrammar.{Word, lead, next, Part, word, above, Parts, last, more, Text, bare, rooted, plain}
@@ -241,24 +241,24 @@ unfolding text_within
 written-given limit cs out f l r = rw (path-back limit cs f l, le-leb (length (text_of cs)) (length out) (omega (arith, text-bound limit cs l)))
 
 -- for every path that text reading accepts, writing it and reading again gives it back, where there is room for the longest text
-pub text-again : (limit : ℕ) (text out : List ℕ) (name : AmlName) → told limit (alone (from_text limit text)) ≡ record { memory = name; said = gives tt } →
+pub text-again : (limit : ℕ) (text out : List ℕ) (name : AmlName) → named limit (from_text limit text) ≡ gives name →
     5 * limit - 1 ≤ length out →
     (n : ℕ) × ((written limit name out).said ≡ gives n)
-    × (told limit (alone (from_text limit (take n (written limit name out).out))) ≡ record { memory = name; said = gives tt })
+    × (named limit (from_text limit (take n (written limit name out).out)) ≡ gives name)
 text-again limit text out name h r = go (from_text limit text) refl h
   where
-    go : (a : Answer (List Component)) → from_text limit text ≡ a → told limit (alone a) ≡ record { memory = name; said = gives tt } →
+    go : (a : Answer (List Component)) → from_text limit text ≡ a → named limit a ≡ gives name →
         (n : ℕ) × ((written limit name out).said ≡ gives n)
-        × (told limit (alone (from_text limit (take n (written limit name out).out))) ≡ record { memory = name; said = gives tt })
-    go (refuses n p) e h = refuses-not (ap (λ (t : Told (Unit {0})). t.said) h)
+        × (named limit (from_text limit (take n (written limit name out).out)) ≡ gives name)
+    go (refuses n p) e h = refuses-not h
     go (gives cs) e h =
         let t = text-sound limit text cs e in
         let w = written-given limit cs out (text-fine t.0) t.1 r in
-        let m : name_of limit cs ≡ name = ap (λ (t : Told (Unit {0})). t.memory) h in
+        let m : name_of limit cs ≡ name = gives_same h in
         rw (sym m) (
           length (text_of cs),
           ap (λ (x : Wrote). x.said) w,
-          ap (λ (x : Wrote). told limit (alone (from_text limit (take (length (text_of cs)) x.out)))) w
-              ∙ ap (λ (s : List ℕ). told limit (alone (from_text limit s))) (take_at (text_of cs) (drop (length (text_of cs)) out) (length (text_of cs)) refl)
-              ∙ ap (λ (a : Answer (List Component)). told limit (alone a)) (text-complete limit (text-written t.0) t.1),
+          ap (λ (x : Wrote). named limit (from_text limit (take (length (text_of cs)) x.out))) w
+              ∙ ap (λ (s : List ℕ). named limit (from_text limit s)) (take_at (text_of cs) (drop (length (text_of cs)) out) (length (text_of cs)) refl)
+              ∙ ap (named limit) (text-complete limit (text-written t.0) t.1),
         )

@@ -7,16 +7,16 @@ use native.Mathlib.Omega.{arith}
 use lib.Dec.{ltb}
 use lib.ListN.{length, get_or, set, take, drop, length-append, length-drop, drop_of_length-le}
 use lib.Seq.{sets, sets-eq, take_at, drop-append-add, drop-drop}
+use borrow.Rule.Slice.PartMut.{put_mid}
 use borrow.Author.Tests.{lt-ltb, le-ltb, le-leb, lt-leb, ltb-true, ltb-false, eqb-true}
 use Rattle.pkg_length.specs.Refusal.{Answer, gives, refuses, and_then}
 use Rattle.name_object.specs.Component.{Component, root, up, seg}
-use Rattle.name_object.specs.Memory.{component_of, path_ok, path_of_name, path_in_answer}
+use Rattle.name_object.specs.Memory.{component_of, path_of_name}
 use Rattle.name_object.specs.declared.AmlName.{AmlName}
 use Rattle.name_object.proofs.Paths.{by_kind}
 use Rattle.pkg_length.specs.Wrote.{Wrote, wrote}
 use Rattle.path.specs.Text.{text_of, text_within}
 use Rattle.path.specs.Inside.{is_mark, piece, length_of_piece}
-use Rattle.path.proofs.Basics.{path-good}
 use Rattle.path.proofs.Walks.{path-next, length-path}
 
 -- ## The text of a component, with a dot if more follows a segment
@@ -26,13 +26,13 @@ piece_of more root = 0x5C ∷ []
 piece_of more up = 0x5E ∷ []
 piece_of more (seg a b c d) = a ∷ b ∷ c ∷ d ∷ cond more (0x2E ∷ []) []
 
-piece_is : (more : Bool) (a b c d : ℕ) → piece_of more (component_of a b c d) ≡ piece more a b c d
+piece_is : (more : Bool) (a b c d : ℕ) → piece_of more (component_of a b c d) ≡ piece more (a ∷ b ∷ c ∷ d ∷ [])
 unfolding piece piece_of
 piece_is more a b c d =
     by_kind a b c d (λ x. piece_of more x ≡ cond (is_mark a) (a ∷ []) (a ∷ b ∷ c ∷ d ∷ cond more (0x2E ∷ []) []))
     (λ e. rw (e, eqb-true a 0x5C e)) (λ n e. rw (n, e, eqb-true a 0x5E e)) (λ n m. rw (n, m))
 
-pub piece-length : (more : Bool) (a b c d : ℕ) → length (piece more a b c d) ≡ length_of_piece more a
+pub piece-length : (more : Bool) (a b c d : ℕ) → length (piece more (a ∷ b ∷ c ∷ d ∷ [])) ≡ length_of_piece more a
 unfolding piece length_of_piece
 piece-length more a b c d = go (is_mark a) more
   where
@@ -42,12 +42,13 @@ piece-length more a b c d = go (is_mark a) more
     go false false = refl
 
 -- by its first byte and whether more follows
-module _ (more : Bool) (a b c d : ℕ) where
-  pub piece-mark : is_mark a ≡ true → (piece more a b c d ≡ a ∷ []) × (length_of_piece more a ≡ 1)
+module _ (more : Bool) (four : List ℕ) where
+  pub piece-mark : is_mark (get_or four 0 0) ≡ true → (piece more four ≡ get_or four 0 0 ∷ []) × (length_of_piece more (get_or four 0 0) ≡ 1)
   unfolding piece length_of_piece
   piece-mark e = (rw e, rw e)
 
-  pub piece-seg : is_mark a ≡ false → (t : Bool) → more ≡ t → (piece more a b c d ≡ a ∷ b ∷ c ∷ d ∷ cond t (0x2E ∷ []) []) × (length_of_piece more a ≡ cond t 5 4)
+  pub piece-seg : is_mark (get_or four 0 0) ≡ false → (t : Bool) → more ≡ t →
+      (piece more four ≡ four ++ cond t (0x2E ∷ []) []) × (length_of_piece more (get_or four 0 0) ≡ cond t 5 4)
   unfolding piece length_of_piece
   piece-seg n t e = (rw (n, e), rw (n, e))
 
@@ -61,21 +62,18 @@ piece-some more a = go (is_mark a) more
     go false false = omega arith
 
 pub piece-four : (more : Bool) (a : ℕ) → is_mark a ≡ false → 4 ≤ length_of_piece more a
-piece-four true a n = omega (arith, (piece-seg true a 0 0 0 n true refl).1)
-piece-four false a n = omega (arith, (piece-seg false a 0 0 0 n false refl).1)
+piece-four true a n = omega (arith, (piece-seg true (a ∷ []) n true refl).1)
+piece-four false a n = omega (arith, (piece-seg false (a ∷ []) n false refl).1)
 
--- the stores of a piece
-pub sets-four : (l : List ℕ) (at a b c d : ℕ) → set (set (set (set l at a) (at + 1) b) (at + 2) c) (at + 3) d ≡ sets l at (a ∷ b ∷ c ∷ d ∷ [])
-sets-four l at a b c d =
-    let e₁ : at + 1 ≡ suc at = omega arith in
-    let e₂ : at + 2 ≡ suc (suc at) = omega arith in
-    let e₃ : at + 3 ≡ suc (suc (suc at)) = omega arith in
-    rw (e₁, e₂, e₃)
+-- the stores of a piece: four bytes copied, and one behind them
+pub copied : (l four : List ℕ) (at k : ℕ) → k ≡ length four → at + length four ≤ length l → put_mid at k l four ≡ sets l at four
+copied l four at k e h = rw (e, drop-drop (length four) at l) (sym (sets-eq four l at h ∙ append_assoc (take at l) four (drop (at + length four) l)))
 
-pub sets-five : (l : List ℕ) (at a b c d e : ℕ) → set (set (set (set (set l at a) (at + 1) b) (at + 2) c) (at + 3) d) (at + 4) e ≡ sets l at (a ∷ b ∷ c ∷ d ∷ e ∷ [])
-sets-five l at a b c d e =
-    let e₄ : at + 4 ≡ suc (suc (suc (suc at))) = omega arith in
-    rw e₄ (ap (λ (k : List ℕ). set k (suc (suc (suc (suc at)))) e) (sets-four l at a b c d))
+pub copied-one : (l four : List ℕ) (at x : ℕ) → set (sets l at four) (at + length four) x ≡ sets l at (four ++ (x ∷ []))
+copied-one l [] at x = let z : at + 0 ≡ at = omega arith in rw z
+copied-one l (a ∷ four) at x =
+    let e : at + length (a ∷ four) ≡ suc at + length four = omega arith in
+    rw e (copied-one (set l at a) four (suc at) x)
 
 -- ## The text of a path, component by component
 
@@ -122,11 +120,11 @@ more-is i n m e h = go (ltb (i + 1) n) refl
 -- the next component's text
 module _ (name : AmlName) (i : ℕ) (h : i < name.count) where
   abbrev piece_at : List ℕ
-  piece_at = piece (ltb (i + 1) name.count) (get_or name.bytes (4 * i) 0) (get_or name.bytes (4 * i + 1) 0) (get_or name.bytes (4 * i + 2) 0) (get_or name.bytes (4 * i + 3) 0)
+  piece_at = piece (ltb (i + 1) name.count) (get_or name.bytes (4 * i) 0 ∷ get_or name.bytes (4 * i + 1) 0 ∷ get_or name.bytes (4 * i + 2) 0 ∷ get_or name.bytes (4 * i + 3) 0 ∷ [])
 
   pub text-next :
       text_of (drop i (path_of_name name))
-      ≡ piece (ltb (i + 1) name.count) (get_or name.bytes (4 * i) 0) (get_or name.bytes (4 * i + 1) 0) (get_or name.bytes (4 * i + 2) 0) (get_or name.bytes (4 * i + 3) 0)
+      ≡ piece (ltb (i + 1) name.count) (get_or name.bytes (4 * i) 0 ∷ get_or name.bytes (4 * i + 1) 0 ∷ get_or name.bytes (4 * i + 2) 0 ∷ get_or name.bytes (4 * i + 3) 0 ∷ [])
       ++ text_of (drop (i + 1) (path_of_name name))
   text-next =
       let e : i + 1 ≡ suc i = omega arith in
@@ -189,21 +187,18 @@ written-end out old at whole w =
 pub written_all : (out old : List ℕ) (at : ℕ) (left whole : List ℕ) → left ≡ [] → Written out old at left whole → out ≡ whole ++ drop (length whole) old
 written_all out old at left whole e w = written-end out old at whole (rw (sym e) w)
 
-pub written-long : (out old whole : List ℕ) → length whole ≤ length old → out ≡ whole ++ drop (length whole) old → length out ≡ length old
-written-long out old whole h e = omega (arith, ap length e, length-append whole (drop (length whole) old), length-drop (length whole) old)
-
 -- what is said of it
 pub same-wrote : {o p : List ℕ} {a b : Answer ℕ} → o ≡ p → a ≡ b → ◌≡◌ {A = Wrote} (record { out = o; said = a }) (record { out = p; said = b })
 same-wrote e f = λ i. record { out = e i; said = f i }
 
-module _ (limit room : ℕ) (name : AmlName) (ok : path_ok limit name ≡ true) where
-  pub text-fits : length (text_of (path_of_name name)) ≤ room → gives (text_of (path_of_name name)) ≡ and_then (path_in_answer limit name) (text_within room)
+module _ (room : ℕ) (cs : List Component) (a : Answer (List Component)) (h : gives cs ≡ a) where
+  pub text-fits : length (text_of cs) ≤ room → gives (text_of cs) ≡ and_then a (text_within room)
   unfolding text_within
-  text-fits l = sym (rw (le-leb _ _ l)) ∙ path-good limit name (text_within room) ok
+  text-fits l = rw (← h, le-leb _ _ l)
 
-  pub text-over : room < length (text_of (path_of_name name)) → refuses 25 0 ≡ and_then (path_in_answer limit name) (text_within room)
+  pub text-over : room < length (text_of cs) → refuses 25 0 ≡ and_then a (text_within room)
   unfolding text_within
-  text-over l = sym (rw (lt-leb _ _ l)) ∙ path-good limit name (text_within room) ok
+  text-over l = rw (← h, lt-leb _ _ l)
 
 pub wrote_as : (out : List ℕ) {a b : Answer (List ℕ)} {w : Wrote} → a ≡ b → w ≡ wrote out a → w ≡ wrote out b
 wrote_as out e h = h ∙ ap (wrote out) e

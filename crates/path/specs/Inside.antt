@@ -1,19 +1,14 @@
 -- What the functions inside promise one another. No public contract rests on these.
-use Rattle.std.specs.Prelude.{ℕ, suc, ◌+◌, ◌-◌, ◌*◌, ◌≤◌, ◌<◌, ◌≡◌, Bool, true, false, not, ◌&&◌, ◌||◌, cond, List, [], ◌∷◌, ◌++◌, ltb, eqb, length, take, set}
-use Rattle.pkg_length.specs.Refusal.{Answer, gives, refuses, and_then}
+use Rattle.std.specs.Prelude.{ℕ, suc, ◌+◌, ◌-◌, ◌*◌, ◌≤◌, ◌<◌, ◌≡◌, Bool, true, false, not, ◌&&◌, ◌||◌, cond, List, [], ◌∷◌, ◌++◌, ltb, eqb, length, take, set, get_or, Option, Some, None, Result, Ok, Err}
+use Rattle.pkg_length.specs.Refusal.{Answer, gives, refuses, refused, and_then}
+use Rattle.pkg_length.specs.declared.AmlError.{AmlError}
+use Rattle.pkg_length.specs.declared.AmlError.TheVariants.{TooManyComponents}
 use Rattle.name_object.specs.Component.{Component, root, up, seg, is_seg_ok, fine, spell_one}
 use Rattle.name_object.specs.Memory.{name_of, put4, path_ok, path_of_name}
 use Rattle.name_object.specs.declared.AmlName.{AmlName}
 use Rattle.path.specs.Normal.{step, walk, upright}
 use Rattle.path.specs.Text.{before, inside, padded, reading}
-use Rattle.path.specs.declared.climb.Climb.{Climb}
 use Rattle.path.specs.declared.text.Reading.{Reading}
-use Rattle.path.specs.declared.text.Turn.{Turn}
-use Rattle.path.specs.declared.text.PartsEnd.{PartsEnd}
-
--- a count and bytes that are lent apart
-abbrev pub name_in : ℕ → List ℕ → AmlName
-name_in count bytes = record { count = count; bytes = bytes }
 
 -- memory that was tested
 pub record Known (limit : ℕ) (name : AmlName) : Type 0 where
@@ -27,11 +22,16 @@ unfoldable pub shown : ℕ → List Component → List ℕ
 shown limit cs = (name_of limit (take limit cs)).bytes
 
 -- the bytes of component k, written where there is room for it
-unfoldable pub placed : ℕ → List ℕ → ℕ → ℕ → ℕ → ℕ → ℕ → List ℕ
-placed limit bytes k a b c d = cond (ltb k limit) (put4 bytes (4 * k) a b c d) bytes
+unfoldable pub placed : ℕ → List ℕ → ℕ → List ℕ → List ℕ
+placed limit bytes k four = cond (ltb k limit) (put4 bytes (4 * k) (get_or four 0 0) (get_or four 1 0) (get_or four 2 0) (get_or four 3 0)) bytes
 
 unfoldable pub placed_char : ℕ → List ℕ → ℕ → ℕ → ℕ → List ℕ
 placed_char limit bytes k j b = cond (ltb k limit) (set bytes (4 * k + j) b) bytes
+
+-- a count that was tested: within the limit, or 9
+abbrev pub Limits : ℕ → ℕ → Result (Unit {0}) AmlError → Type 0
+Limits limit count (Ok u) = count ≤ limit
+Limits limit count (Err e) = (limit < count) × (e ≡ TooManyComponents)
 
 -- ## A walk
 
@@ -67,22 +67,21 @@ pub record HasSegment (limit : ℕ) (out : List ℕ) (high : ℕ) (r : Bool) : T
   pub is : (done : List Component) → Shows limit out high done → r ≡ segment_last done
 
 -- memory and an answer show where a walk came to
-abbrev pub Climbed : ℕ → List ℕ → Climb → Answer (List Component) → Type 0
-Climbed limit bytes (Climb.High n) w = (done : List Component) × (w ≡ gives done) × Shows limit bytes n done
-Climbed limit bytes Climb.NoSegment w = w ≡ refuses 10 0
+abbrev pub Climbed : ℕ → List ℕ → Result ℕ AmlError → Answer (List Component) → Type 0
+Climbed limit bytes (Ok n) w = (done : List Component) × (w ≡ gives done) × Shows limit bytes n done
+Climbed limit bytes (Err e) w = w ≡ refused e
 
-abbrev pub at_most : Climb → ℕ → Type 0
-at_most (Climb.High n) m = n ≤ m
-at_most Climb.NoSegment m = Unit {0}
+abbrev pub at_most : Result ℕ AmlError → ℕ → Type 0
+at_most (Ok n) m = n ≤ m
+at_most (Err e) m = Unit {0}
 
-pub record Stepped (limit : ℕ) (out : List ℕ) (high a b c d : ℕ) (out' : List ℕ) (r : Climb) : Type 0 where
+pub record Stepped (limit : ℕ) (out : List ℕ) (high : ℕ) (four : List ℕ) (out' : List ℕ) (r : Result ℕ AmlError) : Type 0 where
   pub low : at_most r (high + 1)
-  pub is : (done : List Component) (x : Component) → Shows limit out high done → fine (fresh done) (x ∷ []) ≡ true →
-      spell_one x ≡ a ∷ b ∷ c ∷ d ∷ [] → Climbed limit out' r (step (gives done) x)
+  pub is : (done : List Component) (x : Component) → Shows limit out high done → fine (fresh done) (x ∷ []) ≡ true → spell_one x ≡ four → Climbed limit out' r (step (gives done) x)
 
-pub record Walked (limit : ℕ) (out : List ℕ) (start : ℕ) (path : AmlName) (out' : List ℕ) (r : Climb) : Type 0 where
+pub record Walked (limit : ℕ) (out : List ℕ) (start : ℕ) (path : AmlName) (out' : List ℕ) (r : Result ℕ AmlError) : Type 0 where
   pub low : at_most r (start + path.count)
-  pub is : (done : List Component) → Shows limit out start done → Known limit path → fine (fresh done) (path_of_name path) ≡ true →
+  pub is : (done : List Component) → Shows limit out start done → fine (fresh done) (path_of_name path) ≡ true →
       Climbed limit out' r (walk (gives done) (path_of_name path))
 
 -- ## Reading text
@@ -119,23 +118,23 @@ pub record OnWay (limit : ℕ) (out : List ℕ) (s : Reading) (i : ℕ) (rest : 
   pub between : s.chars ≡ 0 → Between limit out s i rest whole
   pub within : (s.chars ≡ 0 → ⊥) → Within limit out s i rest whole
 
-abbrev pub Turned : ℕ → List ℕ → Turn → ℕ → ℕ → List ℕ → Answer (List Component) → Type 0
-Turned limit out (Turn.On s) i start rest whole = OnWay limit out s (suc i) rest whole
-Turned limit out Turn.Wrong i start rest whole = whole ≡ refuses 8 start
+abbrev pub Turned : ℕ → List ℕ → Option Reading → ℕ → ℕ → List ℕ → Answer (List Component) → Type 0
+Turned limit out (Some s) i start rest whole = OnWay limit out s (suc i) rest whole
+Turned limit out None i start rest whole = whole ≡ refuses 8 start
 
-abbrev pub turn_low : Turn → ℕ → Type 0
-turn_low (Turn.On s) m = s.count + s.chars ≤ m
-turn_low Turn.Wrong m = Unit {0}
+abbrev pub turn_low : Option Reading → ℕ → Type 0
+turn_low (Some s) m = s.count + s.chars ≤ m
+turn_low None m = Unit {0}
 
 -- one byte more
-pub record Turns (limit : ℕ) (out : List ℕ) (s : Reading) (b : ℕ) (out' : List ℕ) (r : Turn) : Type 0 where
+pub record Turns (limit : ℕ) (out : List ℕ) (s : Reading) (b : ℕ) (out' : List ℕ) (r : Option Reading) : Type 0 where
   pub low : turn_low r (s.count + s.chars + 1)
   pub is : (i : ℕ) (rest : List ℕ) (whole : Answer (List Component)) → OnWay limit out s i (b ∷ rest) whole → Turned limit out' r i (i - s.chars) rest whole
 
 -- where the parts of a text came to
-abbrev pub Ended : ℕ → List ℕ → PartsEnd → Answer (List Component) → Type 0
-Ended limit out (PartsEnd.Count n) whole = (cs : List Component) × (whole ≡ gives cs) × (n ≡ length cs) × (out ≡ shown limit cs)
-Ended limit out (PartsEnd.Wrong p) whole = whole ≡ refuses 8 p
+abbrev pub Ended : ℕ → List ℕ → Result ℕ AmlError → Answer (List Component) → Type 0
+Ended limit out (Ok n) whole = (cs : List Component) × (whole ≡ gives cs) × (n ≡ length cs) × (out ≡ shown limit cs)
+Ended limit out (Err e) whole = whole ≡ refused e
 
 -- ## Writing text
 
@@ -143,9 +142,9 @@ Ended limit out (PartsEnd.Wrong p) whole = whole ≡ refuses 8 p
 abbrev pub is_mark : ℕ → Bool
 is_mark a = eqb a 0x5C || eqb a 0x5E
 
--- the text of a component, by its bytes: `more` where another component follows
-unfoldable pub piece : Bool → ℕ → ℕ → ℕ → ℕ → List ℕ
-piece more a b c d = cond (is_mark a) (a ∷ []) (a ∷ b ∷ c ∷ d ∷ cond more (0x2E ∷ []) [])
+-- the text of a component, by its four bytes: `more` where another component follows
+unfoldable pub piece : Bool → List ℕ → List ℕ
+piece more four = cond (is_mark (get_or four 0 0)) (get_or four 0 0 ∷ []) (four ++ cond more (0x2E ∷ []) [])
 
 unfoldable pub length_of_piece : Bool → ℕ → ℕ
-length_of_piece more a = cond (is_mark a) 1 (cond more 5 4)
+length_of_piece more lead = cond (is_mark lead) 1 (cond more 5 4)

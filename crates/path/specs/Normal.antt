@@ -1,12 +1,8 @@
--- Normalising, resolving and the parent, over the components of a path; and what the code's answers say.
+-- Normalising, resolving and the parent, over the components of a path.
 use Rattle.std.specs.Prelude.{ℕ, Bool, true, false, cond, leb, length, get_or}
 use mathlib.Core.List.{List, [], ◌∷◌, ◌++◌, reverse, drop_last}
-use Rattle.pkg_length.specs.Refusal.{Answer, gives, refuses, refused, and_then}
+use Rattle.pkg_length.specs.Refusal.{Answer, gives, refuses, and_then}
 use Rattle.name_object.specs.Component.{Component, root, up, seg, is_seg_ok}
-use Rattle.name_object.specs.Memory.{Named, Told}
-use Rattle.path.specs.declared.PathSaid.{PathSaid}
-use Rattle.path.specs.declared.PathAnswer.{PathAnswer}
-use Rattle.path.specs.declared.FlagAnswer.{FlagAnswer}
 
 -- one component more, on those that stand, the last one first: a `^` takes away the segment before it, else 10
 unfoldable pub step : Answer (List Component) → Component → Answer (List Component)
@@ -79,20 +75,3 @@ segment_path bs =
     cond (is_seg_ok (get_or bs 0 0) (get_or bs 1 0) (get_or bs 2 0) (get_or bs 3 0))
     (gives (seg (get_or bs 0 0) (get_or bs 1 0) (get_or bs 2 0) (get_or bs 3 0) ∷ []))
     (refuses 26 0)
-
--- an answer that is a path and nothing more
-abbrev pub alone : Answer (List Component) → Answer (Named (Unit {0}))
-alone (gives cs) = gives (record { path = cs; value = tt })
-alone (refuses n p) = refuses n p
-
--- what the code's answers say
-abbrev pub path_said : PathSaid → Answer (Unit {0})
-path_said PathSaid.Done = gives tt
-path_said (PathSaid.Refused e) = refused e
-
-abbrev pub path_told : PathAnswer → Told (Unit {0})
-path_told r = record { memory = r.name; said = path_said r.said }
-
-abbrev pub flag_said : FlagAnswer → Answer Bool
-flag_said (FlagAnswer.Is b) = gives b
-flag_said (FlagAnswer.Refused e) = refused e

@@ -1,9 +1,8 @@
 -- Paths as text: reading as `from_str`, writing as `as_string`.
 use Rattle.std.specs.Prelude.{ℕ, suc, cond, List, [], ◌∷◌, ◌++◌, leb, ltb, eqb, length, get_or}
-use Rattle.pkg_length.specs.Refusal.{Answer, gives, refuses, refused, and_then}
+use Rattle.pkg_length.specs.Refusal.{Answer, gives, refuses, and_then}
 use Rattle.name_object.specs.Component.{Component, root, up, seg, lead_ok, char_ok}
 use Rattle.path.specs.Normal.{limited}
-use Rattle.path.specs.declared.TextAnswer.{TextAnswer}
 
 -- where a reader of text stands: before a segment, or in one, with where it starts and its characters so far
 pub data Place : Type 0 where
@@ -56,8 +55,3 @@ text_of (seg a b c d ∷ x ∷ cs) = a ∷ b ∷ c ∷ d ∷ 0x2E ∷ text_of (x
 -- the text of a path, 25 where there is no room for it
 unfoldable pub text_within : ℕ → List Component → Answer (List ℕ)
 text_within room cs = cond (leb (length (text_of cs)) room) (gives (text_of cs)) (refuses 25 0)
-
--- what the code's answers say
-abbrev pub text_said : TextAnswer → Answer ℕ
-text_said (TextAnswer.Length n) = gives n
-text_said (TextAnswer.Refused e) = refused e

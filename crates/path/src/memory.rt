@@ -1,29 +1,25 @@
-// A path in the making: bytes and a count. The first components are kept, as many as a path may have; those above them are only counted.
+// A path in the making: bytes, and a count beside them. The first components are kept, as many as a path may have; those above them are only counted.
 // So a join may pass through more components on its way, and a text is read to its end before 9 is judged.
-ghost use Rattle.std.specs.Prelude.{◌≡◌, List, ℕ, ◌<◌, length};
-ghost use Rattle.name_object.specs.Component.{Component, component_limit};
-ghost use Rattle.name_object.specs.Memory.{told};
-ghost use Rattle.path.specs.Normal.{limited, alone, path_told};
-ghost use Rattle.path.specs.Inside.{shown, placed, placed_char};
+// Bytes and count are no struct: tried, the count then lies in memory behind an array that is indexed, and to resolve a path takes 7 in 100 instructions more.
+ghost use Rattle.std.specs.Prelude.{◌≡◌, ◌<◌};
+ghost use Rattle.name_object.specs.Component.{component_limit};
+ghost use Rattle.path.specs.Inside.{placed, placed_char, Limits};
 
-use crate::{PathAnswer, PathSaid};
-use name_object::{AmlName, COMPONENTS, PATH_BYTES};
+use name_object::{AmlName, COMPONENTS, PATH_BYTES, inner};
 use pkg_length::AmlError;
 
 // Component k, where there is room for it.
-pub(crate) fn put(out: &mut [u8; PATH_BYTES], k: usize, a: u8, b: u8, c: u8, d: u8)
-    ensures { out.new ≡ placed component_limit out.old k a b c d }
+#[tactic(auto, unfolding(crate::specs::Inside::placed))]
+pub(crate) fn put(out: &mut [u8; PATH_BYTES], k: usize, four: [u8; 4])
+    ensures { out.new ≡ placed component_limit out.old k four }
 {
     if k < COMPONENTS {
-        let at = 4 * k;
-        out[at] = a;
-        out[at + 1] = b;
-        out[at + 2] = c;
-        out[at + 3] = d;
+        inner::put(out, k, four);
     }
 }
 
 // Byte j of component k.
+#[tactic(auto, unfolding(crate::specs::Inside::placed_char))]
 pub(crate) fn put_char(out: &mut [u8; PATH_BYTES], k: usize, j: usize, b: u8)
     requires { j < 4 }
     ensures { out.new ≡ placed_char component_limit out.old k j b }
@@ -33,15 +29,12 @@ pub(crate) fn put_char(out: &mut [u8; PATH_BYTES], k: usize, j: usize, b: u8)
     }
 }
 
-// The path that was made.
-pub(crate) fn finish(bytes: [u8; PATH_BYTES], count: usize) -> PathAnswer
-    ensures { (cs : List Component) → bytes ≡ shown component_limit cs → count ≡ length cs → path_told result ≡ told component_limit (alone (limited component_limit cs)) }
+// So many components are a path.
+pub(crate) fn fits(count: usize) -> Result<(), AmlError>
+    ensures { Limits component_limit count result }
 {
     if COMPONENTS < count {
-        return crate::refuse(AmlError::TooManyComponents);
+        return Err(AmlError::TooManyComponents);
     }
-    PathAnswer {
-        name: AmlName { count, bytes },
-        said: PathSaid::Done,
-    }
+    Ok(())
 }

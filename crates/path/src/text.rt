@@ -1,13 +1,21 @@
 // Paths as text: what `from_str` and `as_string` do, byte by byte.
-ghost use Rattle.std.specs.Prelude.{◌≡◌, List, [], ◌++◌, ◌+◌, ◌<◌, ◌≤◌, length, drop};
+ghost use Rattle.std.specs.Prelude.{◌≡◌, List, [], ◌++◌, ◌+◌, ◌<◌, ◌≤◌, length, drop, slice_index};
 ghost use Rattle.std.proofs.lemmas.List.Edits.{sets};
 ghost use Rattle.name_object.specs.Component.{Component, component_limit};
 ghost use Rattle.name_object.specs.Memory.{path_of_name};
 ghost use Rattle.path.specs.Text.{text_of, reading, before};
-ghost use Rattle.path.specs.Inside.{name_in, shown, root_of, Turns, Ended, after, piece, length_of_piece};
+ghost use Rattle.path.specs.Inside.{shown, root_of, Turns, Ended, after, is_mark, piece, length_of_piece};
 
+use crate::inner::Path;
 use crate::memory;
-use name_object::PATH_BYTES;
+use name_object::inner::component;
+use name_object::{PATH_BYTES, PREFIX_CHAR, ROOT_CHAR};
+use pkg_length::AmlError;
+
+// Stands for the characters that a segment of text lacks.
+const PAD: u8 = b'_';
+
+const DOT: u8 = b'.';
 
 // A reader of text: components read, and characters of a segment that is begun; none before a segment.
 #[derive(Clone, Copy)]
@@ -16,42 +24,28 @@ pub struct Reading {
     pub chars: usize,
 }
 
-#[derive(Clone, Copy)]
-pub enum Turn {
-    On(Reading),
-    Wrong,
-}
-
-// How many components, or where a wrong segment starts.
-#[derive(Clone, Copy)]
-pub enum PartsEnd {
-    Count(usize),
-    Wrong(usize),
-}
-
-// One byte more. A segment is padded as it starts.
-fn read_byte(out: &mut [u8; PATH_BYTES], s: Reading, b: u8) -> Turn
-    requires { s.count < 0xFFFFFFFFFFFFFFFF }
+// One byte more; None where it makes a segment wrong. A segment is padded as it starts.
+fn read_byte(out: &mut [u8; PATH_BYTES], s: Reading, b: u8) -> Option<Reading>
+    requires { s.count < usize.MAX }
     ensures { Turns component_limit out.old s b out.new result }
 {
-    let count = s.count;
-    let chars = s.chars;
+    let Reading { count, chars } = s;
     if chars == 0 {
-        if b == b'^' {
-            memory::put(out, count, b, 0, 0, 0);
-            return Turn::On(Reading {
+        if b == PREFIX_CHAR {
+            memory::put(out, count, [b, 0, 0, 0]);
+            return Some(Reading {
                 count: count + 1,
                 chars: 0,
             });
         }
         if name_object::is_lead_name_char(b) {
-            memory::put(out, count, b, b'_', b'_', b'_');
-            return Turn::On(Reading { count, chars: 1 });
+            memory::put(out, count, [b, PAD, PAD, PAD]);
+            return Some(Reading { count, chars: 1 });
         }
-        return Turn::Wrong;
+        return None;
     }
-    if b == b'.' {
-        return Turn::On(Reading {
+    if b == DOT {
+        return Some(Reading {
             count: count + 1,
             chars: 0,
         });
@@ -59,28 +53,32 @@ fn read_byte(out: &mut [u8; PATH_BYTES], s: Reading, b: u8) -> Turn
     if chars < 4 {
         if name_object::is_name_char(b) {
             memory::put_char(out, count, chars, b);
-            return Turn::On(Reading {
+            return Some(Reading {
                 count,
                 chars: chars + 1,
             });
         }
     }
-    Turn::Wrong
+    None
 }
 
 // A `\` at the front, where there is one: how many components that is, and bytes of text.
 pub(crate) fn read_root(out: &mut [u8; PATH_BYTES], b: u8) -> usize
     ensures { (result ≡ length (root_of b)) × (out.old ≡ shown component_limit [] → out.new ≡ shown component_limit (root_of b)) }
 {
-    if b == b'\\' {
-        memory::put(out, 0, 0x5C, 0, 0, 0);
-        return 1;
+    if b != ROOT_CHAR {
+        return 0;
     }
-    0
+    memory::put(out, 0, [ROOT_CHAR, 0, 0, 0]);
+    1
 }
 
-// Dot-separated parts from an offset on, behind as many components.
-pub(crate) fn read_parts(out: &mut [u8; PATH_BYTES], text: &[u8], from: usize) -> PartsEnd
+// Dot-separated parts from an offset on, behind as many components: how many there are then, or where a wrong segment starts.
+pub(crate) fn read_parts(
+    out: &mut [u8; PATH_BYTES],
+    text: &[u8],
+    from: usize,
+) -> Result<usize, AmlError>
     requires { from ≤ length text.now }
     ensures { (done : List Component) → out.old ≡ shown component_limit done → from ≡ length done →
         Ended component_limit out.new result (after done (reading before from (drop from text.now))) }
@@ -89,88 +87,78 @@ pub(crate) fn read_parts(out: &mut [u8; PATH_BYTES], text: &[u8], from: usize) -
         count: from,
         chars: 0,
     };
-    let mut i = from;
-    while i < text.len() {
+    for i in from..text.len() {
         match read_byte(out, s, text[i]) {
-            Turn::On(t) => {
-                s = t;
-                i += 1;
-            }
-            Turn::Wrong => {
-                return PartsEnd::Wrong(i - s.chars);
-            }
+            Some(t) => s = t,
+            None => return Err(AmlError::InvalidNameSeg(i - s.chars)),
         }
     }
     if s.chars == 0 {
-        return PartsEnd::Wrong(i);
+        return Err(AmlError::InvalidNameSeg(text.len()));
     }
-    PartsEnd::Count(s.count + 1)
+    Ok(s.count + 1)
+}
+
+// A `\` or a `^`, by the first byte of a component: one byte of text.
+fn is_mark(lead: u8) -> bool
+    ensures { result ≡ is_mark lead }
+{
+    (lead == ROOT_CHAR) | (lead == PREFIX_CHAR)
 }
 
 // How many bytes a component has in text: one, or four and a dot if more follows.
-fn piece_length(more: bool, a: u8) -> usize
-    ensures { result ≡ length_of_piece more a }
+#[tactic(auto, unfolding(crate::specs::Inside::length_of_piece))]
+fn piece_length(more: bool, lead: u8) -> usize
+    ensures { result ≡ length_of_piece more lead }
 {
-    if (a == 0x5C) | (a == 0x5E) {
-        return 1;
+    if is_mark(lead) {
+        1
+    } else if more {
+        5
+    } else {
+        4
     }
-    if more {
-        return 5;
-    }
-    4
-}
-
-// How many bytes the text of a path has.
-pub(crate) fn text_length(bytes: &[u8; PATH_BYTES], count: usize) -> usize
-    requires { count ≤ component_limit }
-    ensures { result ≡ length (text_of (path_of_name (name_in count bytes.now))) }
-{
-    let mut n = 0;
-    let mut i = 0;
-    while i < count {
-        n += piece_length(i + 1 < count, bytes[4 * i]);
-        i += 1;
-    }
-    n
 }
 
 // The text of a component from an offset on; where it ends.
-fn write_piece(out: &mut [u8], at: usize, more: bool, a: u8, b: u8, c: u8, d: u8) -> usize
-    requires { at + length_of_piece more a ≤ length out.old }
-    ensures { (out.new ≡ sets out.old at (piece more a b c d)) × (result ≡ at + length_of_piece more a) }
+fn write_piece(out: &mut [u8], at: usize, more: bool, four: [u8; 4]) -> usize
+    requires { at + length_of_piece more (slice_index four 0) ≤ length out.old }
+    ensures { (out.new ≡ sets out.old at (piece more four)) × (result ≡ at + length_of_piece more (slice_index four 0)) }
 {
-    out[at] = a;
-    if (a == 0x5C) | (a == 0x5E) {
+    if is_mark(four[0]) {
+        out[at] = four[0];
         return at + 1;
     }
-    out[at + 1] = b;
-    out[at + 2] = c;
-    out[at + 3] = d;
+    out[at..at + 4].copy_from_slice(&four);
     if more {
-        out[at + 4] = b'.';
+        out[at + 4] = DOT;
         return at + 5;
     }
     at + 4
 }
 
-// The text of a path, at the start of what is lent.
-pub(crate) fn write_text(out: &mut [u8], bytes: &[u8; PATH_BYTES], count: usize)
-    requires { (count ≤ component_limit) × (length (text_of (path_of_name (name_in count bytes.now))) ≤ length out.old) }
-    ensures { out.new ≡ text_of (path_of_name (name_in count bytes.now)) ++ drop (length (text_of (path_of_name (name_in count bytes.now)))) out.old }
-{
-    let mut at = 0;
-    let mut i = 0;
-    while i < count {
-        let p = 4 * i;
-        at = write_piece(
-            out,
-            at,
-            i + 1 < count,
-            bytes[p],
-            bytes[p + 1],
-            bytes[p + 2],
-            bytes[p + 3],
-        );
-        i += 1;
+impl<'a> Path<'a> {
+    // How many bytes the text of the path has.
+    pub(crate) fn text_length(&self) -> usize
+        ensures { result ≡ length (text_of (path_of_name self.now.name.now)) }
+    {
+        let count = self.name.count;
+        let mut n = 0;
+        for i in 0..count {
+            n += piece_length(i + 1 < count, component(self.name, i)[0]);
+        }
+        n
+    }
+
+    // The text of the path, at the start of what is lent.
+    pub(crate) fn write_text(&self, out: &mut [u8])
+        requires { length (text_of (path_of_name self.now.name.now)) ≤ length out.old }
+        ensures { out.new ≡ text_of (path_of_name self.now.name.now) ++ drop (length (text_of (path_of_name self.now.name.now))) out.old }
+    {
+        let count = self.name.count;
+        let mut at = 0;
+        for i in 0..count {
+            at = write_piece(out, at, i + 1 < count, component(self.name, i));
+        }
     }
 }

@@ -1,9 +1,11 @@
 -- The small facts that every layer cites, in plain variables: a test has one outcome, and what an answer that gives came from.
-use mathlib.Core.Path.{◌≡◌, refl, sym, ◌∙◌, ap}
+use mathlib.Core.Path.{◌≡◌, refl, sym, ◌∙◌, ap, subst}
 use mathlib.Core.Bool.{Bool, true, false, ◌&&◌, false≢true, and-eq-true_iff}
 use Prim.Native.Nat.{ℕ}
 use native.Mathlib.Omega.{arith}
-use Rattle.pkg_length.specs.Refusal.{Answer, gives, refuses, and_then}
+use Rattle.std.specs.Prelude.{Result, Ok, Err, IsErr, IsErrAnd}
+use Rattle.pkg_length.specs.declared.AmlError.{AmlError}
+use Rattle.pkg_length.specs.Refusal.{Answer, gives, refuses, refused, said, said_as, and_then}
 
 -- a test that holds does not fail
 pub never : {T : Type 0} → false ≡ true → T
@@ -45,3 +47,14 @@ then-refuses (refuses n p) f h = cc
 -- one refusal is the same refusal of any answer
 pub refuses-as : {A B : Type 0} {n p k q : ℕ} → ◌≡◌ {A = Answer A} (refuses n p) (refuses k q) → ◌≡◌ {A = Answer B} (refuses n p) (refuses k q)
 refuses-as {n = n} {p = p} {k = k} {q = q} h = let x : n ≡ k = cc in let y : p ≡ q = cc in cc
+
+-- what `?` hands on is the refusal that it met: whatever holds of that
+pub residual_of : {A : Type 0} (P : Result A AmlError → Type 0) (r : Result A AmlError) (e : AmlError) → IsErr r × IsErrAnd r (λ x. x ≡ e) → P (Err e) → P r
+residual_of P (Ok a) e (h, k) p = never h
+residual_of P (Err x) e (h, k) p = subst (λ (y : AmlError). P (Err y)) (sym k) p
+
+pub residual : {A : Type 0} (r : Result A AmlError) (e : AmlError) → IsErr r × IsErrAnd r (λ x. x ≡ e) → said r ≡ refused e
+residual r e h = residual_of (λ s. said s ≡ refused e) r e h refl
+
+pub residual_as : {A B : Type 0} (f : A → B) (r : Result A AmlError) (e : AmlError) → IsErr r × IsErrAnd r (λ x. x ≡ e) → said_as f r ≡ refused e
+residual_as f r e h = residual_of (λ s. said_as f s ≡ refused e) r e h refl

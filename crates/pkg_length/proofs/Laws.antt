@@ -1,21 +1,19 @@
 -- The number that n bytes spell, at any n: what the turn of a loop over them does, and how large it is.
-use mathlib.Core.Path.{◌≡◌, refl, sym, ap}
-use mathlib.Core.List.{List, [], ◌∷◌}
+use mathlib.Core.Path.{◌≡◌, refl, sym, ap, subst, ◌∙◌}
+use mathlib.Core.List.{List, [], ◌∷◌, ◌++◌, append-nil}
 use Prim.Native.Nat.{ℕ, zero, suc, ◌+◌, ◌-◌, ◌*◌, ◌/◌, ◌%◌, ◌^◌, ◌≤◌, ◌<◌}
 use native.Mathlib.Nat.{pow-le-pow_right, pow-suc, one-le-pow}
 use native.Mathlib.Omega.{arith}
 use lib.Dec.{lit<}
-use lib.ListN.{length, get_or, take, drop}
-use lib.Seq.{drop-cons, get_or-drop}
+use lib.ListN.{length, get_or, take, drop, length-append, length-drop}
+use lib.Seq.{drop-cons, get_or-drop, drop-append_seam}
+use Rattle.std.proofs.lemmas.List.{take_all}
+use Rattle.std.proofs.Math.Seq.{append_snoc}
 use Rattle.pkg_length.specs.Little.{little, little_bytes}
 
 little-cons : (b : ℕ) (bs : List ℕ) → little (b ∷ bs) ≡ b + 256 * little bs
 unfolding little
 little-cons b bs = refl
-
-little-none : (xs : List ℕ) (m : ℕ) → m ≡ 0 → little (take m xs) ≡ 0
-unfolding little
-little-none xs m e = rw e
 
 -- the bytes from k on are known: the byte before them
 pub little-turn : (xs : List ℕ) (at n k value : ℕ) → 0 < k → k ≤ n → at + n ≤ length xs →
@@ -47,6 +45,13 @@ little-within m n at xs h l =
     let p : 256 ^ n ≤ 256 ^ m = pow-le-pow_right {n = 256} (lit< tt) l in
     omega (arith, little-part n at xs h)
 
+-- the extra bytes of a length, which stand behind its lead byte
+pub high-small : (xs : List ℕ) (n high : ℕ) → ((i : ℕ) → get_or xs i 0 < 256) → n ≤ 3 →
+    high ≡ little (take n (take (length xs - 1) (drop 1 xs))) → high < 256 ^ 3
+high-small xs n high h l e =
+    let whole : take (length xs - 1) (drop 1 xs) ≡ drop 1 xs = take_all (length xs - 1) (drop 1 xs) (omega (arith, length-drop 1 xs)) in
+    rw (e, whole) (little-within 3 n 1 xs h l)
+
 -- the bytes of a number spell it, at any width that holds it
 pub little-bytes : (w n : ℕ) → n < 256 ^ w → little (little_bytes w n) ≡ n
 unfolding little little_bytes
@@ -70,25 +75,31 @@ unfolding little_bytes
 bytes-long zero n = refl
 bytes-long (suc w) n = ap suc (bytes-long w (n / 256))
 
--- what a loop down over n bytes from index at on holds at index k
-pub record Spelt (xs : List ℕ) (at n value k : ℕ) : Type 0 where
-  pub inside : k ≤ n
-  pub is : value ≡ little (take (n - k) (drop (at + k) xs))
+-- what a loop from the last byte back has read, `rest` being the bytes that are left
+pub record Spelt (xs rest : List ℕ) (value : ℕ) : Type 0 where
+  pub read : List ℕ
+  pub whole : rest ++ read ≡ xs
+  pub is : value ≡ little read
 
-pub spelt-none : (xs : List ℕ) (at n : ℕ) → Spelt xs at n 0 n
-spelt-none xs at n = record { inside = omega arith; is = sym (little-none (drop (at + n) xs) (n - n) (omega arith)) }
+pub spelt-none : (xs : List ℕ) → Spelt xs xs 0
+unfolding little
+spelt-none xs = record { read = []; whole = append-nil xs; is = refl }
 
-pub spelt-turn : (xs : List ℕ) (at n k value b : ℕ) → Spelt xs at n value k → 0 < k → at + n ≤ length xs →
-    b ≡ get_or xs (at + (k - 1)) 0 → Spelt xs at n (value * 256 + b) (k - 1)
-spelt-turn xs at n k value b s h fits e =
-    record { inside = omega arith; is = rw e (little-turn xs at n k value h s.inside fits s.is) }
+pub spelt-turn : (xs rest next : List ℕ) (value b : ℕ) → Spelt xs rest value → rest ≡ next ++ (b ∷ []) → Spelt xs next (value * 256 + b)
+spelt-turn xs rest next value b s e =
+    record {
+      read = b ∷ s.read;
+      whole = sym (append_snoc next b s.read) ∙ ap (λ (ys : List ℕ). ys ++ s.read) (sym e) ∙ s.whole;
+      is = rw (little-cons b s.read) (omega (arith, s.is));
+    }
 
-pub spelt-all : (xs : List ℕ) (at n k value : ℕ) → Spelt xs at n value k → k ≤ 0 → value ≡ little (take n (drop at xs))
-spelt-all xs at n k value s z =
-    let a : n - k ≡ n = omega arith in
-    let b : at + k ≡ at = omega arith in
-    rw (a, b) at s.is
+pub spelt-all : (xs rest : List ℕ) (value : ℕ) → Spelt xs rest value → length rest ≡ 0 → value ≡ little xs
+spelt-all xs [] value s e = s.is ∙ ap little s.whole
+spelt-all xs (b ∷ rest) value s e = absurd (omega arith)
 
 -- before a turn at most 7 bytes are in the value: one more has room in 64 bits
-pub spelt-room : (xs : List ℕ) (at n k value : ℕ) → ((i : ℕ) → get_or xs i 0 < 256) → Spelt xs at n value k → 0 < k → n ≤ 8 → value < 256 ^ 7
-spelt-room xs at n k value h s pos l = rw s.is (little-within 7 (n - k) (at + k) xs h (omega arith))
+pub spelt-room : (xs rest : List ℕ) (value : ℕ) → ((i : ℕ) → get_or xs i 0 < 256) → Spelt xs rest value → 0 < length rest → length xs ≤ 8 → value < 256 ^ 7
+spelt-room xs rest value h s pos l =
+    let n : length rest + length s.read ≡ length xs = sym (length-append rest s.read) ∙ ap length s.whole in
+    let e : drop (length rest) xs ≡ s.read = rw (← s.whole) (drop-append_seam rest s.read) in
+    rw s.is (subst (λ (ys : List ℕ). little ys < 256 ^ 7) (ap (take (length s.read)) e ∙ take_all (length s.read) s.read (omega arith)) (little-within 7 (length s.read) (length rest) xs h (omega arith)))

@@ -11,7 +11,9 @@ use borrow.Author.Tests.{eqb-true, eqb-false, leb-true, leb-false, le-leb, lt-le
 use Rattle.pkg_length.specs.Refusal.{Answer, gives, refuses, and_then, block_limit}
 use Rattle.pkg_length.specs.Little.{little}
 use Rattle.pkg_length.specs.declared.PkgLength.{PkgLength}
-use Rattle.pkg_length.specs.Pkg.{Raw, Pkg, spelt, raw_length_answer, from_raw, pkg_length_answer}
+use Rattle.pkg_length.specs.declared.Raw.{Raw}
+use Rattle.pkg_length.specs.declared.Pkg.{Pkg}
+use Rattle.pkg_length.specs.Pkg.{spelt, raw_length_answer, from_raw, pkg_length_answer}
 use Rattle.pkg_length.specs.Package.{Spells, spelt_plain, spelt_extra, Package, d_package, package_in}
 use Rattle.pkg_length.proofs.Answers.{refuses-not, then-gives}
 

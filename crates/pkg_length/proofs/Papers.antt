@@ -2,6 +2,7 @@
 use mathlib.Core.Path.{◌≡◌, refl, sym, ap, ◌∙◌}
 use mathlib.Core.Bool.{cond}
 use Prim.Native.Nat.{ℕ}
+use native.Mathlib.Omega.{arith}
 use lib.Dec.{eqb}
 use Rattle.pkg_length.specs.declared.Refusal.{Refusal}
 use Rattle.pkg_length.specs.declared.AmlError.{AmlError}
@@ -128,3 +129,50 @@ case_in (refuses n p) = case_of n p
 pub refused-one : {A : Type 0} (a b : AmlError) → ◌≡◌ {A = Answer A} (refused a) (refused b) → a ≡ b
 unfolding case_in
 refused-one {A} a b e = sym (case-is a) ∙ ap (λ (r : Answer A). case_in r) e ∙ case-is b
+
+-- a refusal has a number
+pub paper-numbered : (e : AmlError) → (paper e).0 ≡ 0 → ⊥
+paper-numbered (UnexpectedEndOfStream p) h = omega arith
+paper-numbered (InvalidPkgLength p) h = omega arith
+paper-numbered (BadOpcode p) h = omega arith
+paper-numbered (TooDeep p) h = omega arith
+paper-numbered BlockTooLong h = omega arith
+paper-numbered (BadNameByte p) h = omega arith
+paper-numbered EmptyNamesAreInvalid h = omega arith
+paper-numbered (InvalidNameSeg p) h = omega arith
+paper-numbered TooManyComponents h = omega arith
+paper-numbered InvalidNormalizedName h = omega arith
+paper-numbered NotAbsolute h = omega arith
+paper-numbered RootHasNoParent h = omega arith
+paper-numbered RootNotAllowed h = omega arith
+paper-numbered TriedToRemoveRootNamespace h = omega arith
+paper-numbered (LevelDoesNotExist p) h = omega arith
+paper-numbered ValueDoesNotExist h = omega arith
+paper-numbered NameCollision h = omega arith
+paper-numbered LevelsFull h = omega arith
+paper-numbered BindingsFull h = omega arith
+paper-numbered ObjectsFull h = omega arith
+paper-numbered NoSuchHandle h = omega arith
+paper-numbered BudgetSpent h = omega arith
+paper-numbered (Unset p) h = omega arith
+paper-numbered BadTable h = omega arith
+paper-numbered (OutTooSmall p) h = omega arith
+paper-numbered BadPath h = omega arith
+paper-numbered TableTooShort h = omega arith
+paper-numbered BadSignature h = omega arith
+paper-numbered BadTableLength h = omega arith
+paper-numbered BadChecksum h = omega arith
+paper-numbered (PackageEndsEarly p) h = omega arith
+paper-numbered (ImageEndedEarly p) h = omega arith
+paper-numbered (ImageEdition p) h = omega arith
+paper-numbered (ImageCount p) h = omega arith
+paper-numbered (ImageDepth p) h = omega arith
+paper-numbered (ImageType p) h = omega arith
+paper-numbered (ImageSegment p) h = omega arith
+paper-numbered (ImageOrder p) h = omega arith
+paper-numbered (ImageDeepBindings p) h = omega arith
+paper-numbered (ImageBindingsOver p) h = omega arith
+paper-numbered (ImageBindingsShort p) h = omega arith
+paper-numbered (ImageHandle p) h = omega arith
+paper-numbered (ImageSpareBits p) h = omega arith
+paper-numbered (ImageBytesLeft p) h = omega arith

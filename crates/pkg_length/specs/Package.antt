@@ -2,7 +2,8 @@
 use Rattle.std.specs.Prelude.{◌≡◌, cond, List, [], ◌∷◌, ◌++◌, ℕ, ◌+◌, ◌*◌, ◌<◌, leb, length}
 use Rattle.pkg_length.specs.Refusal.{Answer, gives, and_then, ends_early}
 use Rattle.pkg_length.specs.Little.{little}
-use Rattle.pkg_length.specs.Pkg.{Raw, spelt, from_raw}
+use Rattle.pkg_length.specs.declared.Raw.{Raw}
+use Rattle.pkg_length.specs.Pkg.{spelt, from_raw}
 
 -- which bytes spell a raw length: bits 7-6 of the lead byte count the extra bytes (as it is a byte, at most 3), and bits 5-4 are ignored where there are any
 pub data Spells : ℕ → List ℕ → Type 0 where

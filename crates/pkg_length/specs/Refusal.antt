@@ -1,5 +1,5 @@
 -- What every call answers, and the refusals of documents 01 (to 26) and 02: the number and the place of each case of the code's `AmlError`.
-use Rattle.std.specs.Prelude.{ℕ}
+use Rattle.std.specs.Prelude.{ℕ, Result, Ok, Err}
 use Rattle.pkg_length.specs.declared.Refusal.{Refusal}
 use Rattle.pkg_length.specs.declared.AmlError.{AmlError}
 use Rattle.pkg_length.specs.declared.AmlError.TheVariants.{
@@ -109,6 +109,16 @@ paper (ImageBytesLeft p) = (44, p)
 -- a refusal of the code, as the paper states it
 abbrev pub refused : {A : Type 0} → AmlError → Answer A
 refused e = refuses (paper e).0 (paper e).1
+
+-- what the code's answer says
+abbrev pub said : {A : Type 0} → Result A AmlError → Answer A
+said (Ok a) = gives a
+said (Err e) = refused e
+
+-- the same, of what the definitions name of a value
+abbrev pub said_as : {A B : Type 0} → (A → B) → Result A AmlError → Answer B
+said_as f (Ok a) = gives (f a)
+said_as f (Err e) = refused e
 
 -- a package that passes its part: 2, at the length's lead byte
 abbrev pub passes_part : {A : Type 0} → ℕ → Answer A

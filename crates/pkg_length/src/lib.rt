@@ -2,13 +2,16 @@
 #![tactic(auto)]
 
 ghost use Rattle.std.specs.Prelude.{◌≡◌, ltb, length};
-ghost use Rattle.pkg_length.specs.Refusal.{paper};
-ghost use Rattle.pkg_length.specs.Pkg.{raw_said, length_said, pkg_said, raw_length_answer, from_raw, pkg_length_answer};
+ghost use Rattle.pkg_length.specs.Refusal.{paper, said};
+ghost use Rattle.pkg_length.specs.Pkg.{raw_length_answer, from_raw, pkg_length_answer};
+
+use std::error::Error;
+use std::fmt;
 
 pub mod inner;
 
 // The refusals of document 01's table, under its names and in its order, then those of 02; each with its place where the paper gives one.
-#[derive(Clone, Copy)]
+#[derive(Clone, Copy, Debug, PartialEq, Eq)]
 pub enum AmlError {
     UnexpectedEndOfStream(usize),
     InvalidPkgLength(usize),
@@ -57,14 +60,14 @@ pub enum AmlError {
 }
 
 // A refusal as the table numbers it: the number, and the place, 0 where the table gives none.
-#[derive(Clone, Copy)]
+#[derive(Clone, Copy, Debug, PartialEq, Eq)]
 pub struct Refusal(pub usize, pub usize);
 
-impl AmlError {
-    pub fn numbered(self) -> Refusal
-        ensures { result ≡ paper self }
-    {
-        match self {
+impl From<AmlError> for Refusal {
+    ghost from_gives = { λ e r. r ≡ paper e };
+
+    fn from(e: AmlError) -> Refusal {
+        match e {
             AmlError::UnexpectedEndOfStream(end) => Refusal(1, end),
             AmlError::InvalidPkgLength(lead) => Refusal(2, lead),
             AmlError::BadOpcode(at) => Refusal(3, at),
@@ -113,7 +116,61 @@ impl AmlError {
     }
 }
 
-#[derive(Clone, Copy)]
+// A refusal's name in the table.
+impl fmt::Display for AmlError {
+    fn fmt<W: fmt::Write>(&self, f: &mut fmt::Formatter<W>) -> fmt::Result {
+        f.write_str(match self {
+            AmlError::UnexpectedEndOfStream(_) => "UnexpectedEndOfStream",
+            AmlError::InvalidPkgLength(_) => "InvalidPkgLength",
+            AmlError::BadOpcode(_) => "BadOpcode",
+            AmlError::TooDeep(_) => "TooDeep",
+            AmlError::BlockTooLong => "BlockTooLong",
+            AmlError::BadNameByte(_) => "BadNameByte",
+            AmlError::EmptyNamesAreInvalid => "EmptyNamesAreInvalid",
+            AmlError::InvalidNameSeg(_) => "InvalidNameSeg",
+            AmlError::TooManyComponents => "TooManyComponents",
+            AmlError::InvalidNormalizedName => "InvalidNormalizedName",
+            AmlError::NotAbsolute => "NotAbsolute",
+            AmlError::RootHasNoParent => "RootHasNoParent",
+            AmlError::RootNotAllowed => "RootNotAllowed",
+            AmlError::TriedToRemoveRootNamespace => "TriedToRemoveRootNamespace",
+            AmlError::LevelDoesNotExist(_) => "LevelDoesNotExist",
+            AmlError::ValueDoesNotExist => "ValueDoesNotExist",
+            AmlError::NameCollision => "NameCollision",
+            AmlError::LevelsFull => "LevelsFull",
+            AmlError::BindingsFull => "BindingsFull",
+            AmlError::ObjectsFull => "ObjectsFull",
+            AmlError::NoSuchHandle => "NoSuchHandle",
+            AmlError::BudgetSpent => "BudgetSpent",
+            AmlError::Unset(_) => "Unset",
+            AmlError::BadTable => "BadTable",
+            AmlError::OutTooSmall(_) => "OutTooSmall",
+            AmlError::BadPath => "BadPath",
+            AmlError::TableTooShort => "TableTooShort",
+            AmlError::BadSignature => "BadSignature",
+            AmlError::BadTableLength => "BadTableLength",
+            AmlError::BadChecksum => "BadChecksum",
+            AmlError::PackageEndsEarly(_) => "PackageEndsEarly",
+            AmlError::ImageEndedEarly(_) => "ImageEndedEarly",
+            AmlError::ImageEdition(_) => "ImageEdition",
+            AmlError::ImageCount(_) => "ImageCount",
+            AmlError::ImageDepth(_) => "ImageDepth",
+            AmlError::ImageType(_) => "ImageType",
+            AmlError::ImageSegment(_) => "ImageSegment",
+            AmlError::ImageOrder(_) => "ImageOrder",
+            AmlError::ImageDeepBindings(_) => "ImageDeepBindings",
+            AmlError::ImageBindingsOver(_) => "ImageBindingsOver",
+            AmlError::ImageBindingsShort(_) => "ImageBindingsShort",
+            AmlError::ImageHandle(_) => "ImageHandle",
+            AmlError::ImageSpareBits(_) => "ImageSpareBits",
+            AmlError::ImageBytesLeft(_) => "ImageBytesLeft",
+        })
+    }
+}
+
+impl Error for AmlError {}
+
+#[derive(Clone, Copy, Debug, PartialEq, Eq)]
 pub struct PkgLength {
     pub raw_length: usize,
     // What is left of the stream where the package ends.
@@ -121,34 +178,27 @@ pub struct PkgLength {
 }
 
 // A raw length, and how many bytes spell it.
-#[derive(Clone, Copy)]
-pub enum RawAnswer {
-    Raw(usize, usize),
-    Refused(AmlError),
-}
-
-// A package length in a stream.
-#[derive(Clone, Copy)]
-pub enum LengthAnswer {
-    Length(PkgLength),
-    Refused(AmlError),
+#[derive(Clone, Copy, Debug, PartialEq, Eq)]
+pub struct Raw {
+    pub raw: usize,
+    pub used: usize,
 }
 
 // A package length that was read, and how many bytes spell it.
-#[derive(Clone, Copy)]
-pub enum PkgAnswer {
-    Read(PkgLength, usize),
-    Refused(AmlError),
+#[derive(Clone, Copy, Debug, PartialEq, Eq)]
+pub struct Pkg {
+    pub length_read: PkgLength,
+    pub used: usize,
 }
 
 impl PkgLength {
-    pub fn from_raw_length(stream: &[u8], raw_length: usize) -> LengthAnswer
-        ensures { length_said result ≡ from_raw (length stream.now) raw_length }
+    pub fn from_raw_length(stream: &[u8], raw_length: usize) -> Result<PkgLength, AmlError>
+        ensures { said result ≡ from_raw (length stream.now) raw_length }
     {
         if stream.len() < raw_length {
-            return LengthAnswer::Refused(AmlError::InvalidPkgLength(0));
+            return Err(AmlError::InvalidPkgLength(0));
         }
-        LengthAnswer::Length(PkgLength {
+        Ok(PkgLength {
             raw_length,
             end_offset: stream.len() - raw_length,
         })
@@ -163,36 +213,38 @@ impl PkgLength {
 }
 
 // A package length against the part that it stands at the front of: it counts its own bytes, and the part holds the package.
-pub fn pkg_length(input: &[u8]) -> PkgAnswer
-    ensures { pkg_said result ≡ pkg_length_answer input.now }
+pub fn pkg_length(input: &[u8]) -> Result<Pkg, AmlError>
+    ensures { said result ≡ pkg_length_answer input.now }
 {
-    match raw_pkg_length(input) {
-        RawAnswer::Refused(e) => PkgAnswer::Refused(e),
-        RawAnswer::Raw(raw, used) => match PkgLength::from_raw_length(input, raw) {
-            LengthAnswer::Refused(e) => PkgAnswer::Refused(e),
-            LengthAnswer::Length(length) => PkgAnswer::Read(length, used),
-        },
-    }
+    let Raw { raw, used } = raw_pkg_length(input)?;
+    let length_read = PkgLength::from_raw_length(input, raw)?;
+    Ok(Pkg { length_read, used })
 }
 
 // The raw length alone, whatever the part holds.
-pub fn raw_pkg_length(input: &[u8]) -> RawAnswer
-    ensures { raw_said result ≡ raw_length_answer input.now }
+pub fn raw_pkg_length(input: &[u8]) -> Result<Raw, AmlError>
+    ensures { said result ≡ raw_length_answer input.now }
 {
     if 65536 < input.len() {
-        return RawAnswer::Refused(AmlError::BlockTooLong);
+        return Err(AmlError::BlockTooLong);
     }
-    if input.len() == 0 {
-        return RawAnswer::Refused(AmlError::UnexpectedEndOfStream(0));
-    }
-    let lead_byte = input[0] as usize;
+    let [lead, rest @ ..] = input else {
+        return Err(AmlError::UnexpectedEndOfStream(0));
+    };
+    let lead_byte = usize::from(*lead);
     let byte_count = lead_byte / 64;
     if byte_count == 0 {
-        return RawAnswer::Raw(lead_byte % 64, 1);
+        return Ok(Raw {
+            raw: lead_byte % 64,
+            used: 1,
+        });
     }
-    if input.len() - 1 < byte_count {
-        return RawAnswer::Refused(AmlError::UnexpectedEndOfStream(input.len()));
+    if rest.len() < byte_count {
+        return Err(AmlError::UnexpectedEndOfStream(input.len()));
     }
-    let high = inner::little_endian(input, 1, byte_count) as usize;
-    RawAnswer::Raw(lead_byte % 16 + 16 * high, 1 + byte_count)
+    let high = inner::little_endian(&rest[..byte_count]) as usize;
+    Ok(Raw {
+        raw: lead_byte % 16 + 16 * high,
+        used: 1 + byte_count,
+    })
 }

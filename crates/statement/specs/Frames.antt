@@ -1,12 +1,10 @@
 -- A frame: cells that are unset or hold a number, and the width of its numbers. Writing sets a cell.
 use Rattle.std.specs.Prelude.{ℕ, ◌%◌, ◌^◌, true, false, cond, map, replicate, nat_lt, slice_index, slice_index_or, slice_set}
-use Rattle.pkg_length.specs.Refusal.{Answer, gives, refuses, refused}
+use Rattle.pkg_length.specs.Refusal.{Answer, gives, refuses}
 use Rattle.grammar.specs.Grammar.{cells}
 use Rattle.statement.specs.declared.frame.Width.{Width}
 use Rattle.statement.specs.declared.frame.Width.TheVariants.{Bits32, Bits64}
 use Rattle.statement.specs.declared.frame.Frame.{Frame}
-use Rattle.statement.specs.declared.frame.CellAnswer.{CellAnswer}
-use Rattle.statement.specs.declared.frame.CellAnswer.TheVariants.{Number, Refused}
 
 -- how many bits numbers have
 abbrev pub bits : Width → ℕ
@@ -35,8 +33,3 @@ wrote f c n = record { set = slice_set f.set c true; val = slice_set f.val c n; 
 -- as execution begins: a number that is larger than the width keeps its low bits
 abbrev pub begun : Frame → Frame
 begun f = record { set = f.set; val = map (low (bits f.width)) f.val; width = f.width }
-
--- what the code's answer says
-abbrev pub cell_said : CellAnswer → Answer ℕ
-cell_said (Number n) = gives n
-cell_said (Refused e) = refused e

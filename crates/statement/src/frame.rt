@@ -1,14 +1,28 @@
 // A frame: cells 0 to 7 are Locals, 8 to 14 Args, each unset or a number; and how many bits its numbers have.
-ghost use Rattle.std.specs.Prelude.{◌≡◌};
-ghost use Rattle.statement.specs.Frames.{width_of, fresh, held, wrote, cell_said};
+ghost use Rattle.std.specs.Prelude.{◌≡◌, ◌<◌};
+ghost use Rattle.pkg_length.specs.Refusal.{said};
+ghost use Rattle.grammar.specs.Grammar.{cells};
+ghost use Rattle.statement.specs.Frames.{bits, width_of, fresh, held, wrote, begun};
 
+use crate::number;
 use pkg_length::AmlError;
 
 // How many bits numbers have.
-#[derive(Clone, Copy)]
+#[derive(Clone, Copy, Debug, PartialEq, Eq)]
 pub enum Width {
     Bits32,
     Bits64,
+}
+
+impl From<Width> for u64 {
+    ghost from_gives = { λ w n. n ≡ bits w };
+
+    fn from(w: Width) -> u64 {
+        match w {
+            Width::Bits32 => 32,
+            Width::Bits64 => 64,
+        }
+    }
 }
 
 // What the DSDT's revision says, for its SSDTs too: below 2 numbers have 32 bits.
@@ -29,18 +43,15 @@ pub fn width_of_ssdt(dsdt: u8, ssdt: u8) -> Width
     width_of(dsdt)
 }
 
-#[derive(Clone, Copy)]
-pub struct Frame {
-    pub set: [bool; 15],
-    pub val: [u64; 15],
-    pub width: Width,
-}
+pub const CELLS: usize = 15;
 
-// What a cell holds, or 23.
-#[derive(Clone, Copy)]
-pub enum CellAnswer {
-    Number(u64),
-    Refused(AmlError),
+// The flags and the numbers are two arrays: an unset cell has a number too, which C's words of a frame give back (klem_run's `frame_words`), so that
+// an Option per cell would lose it.
+#[derive(Clone, Copy, Debug, PartialEq, Eq)]
+pub struct Frame {
+    pub set: [bool; CELLS],
+    pub val: [u64; CELLS],
+    pub width: Width,
 }
 
 impl Frame {
@@ -49,35 +60,55 @@ impl Frame {
         ensures { result ≡ fresh width }
     {
         Frame {
-            set: [false; 15],
-            val: [0; 15],
+            set: [false; CELLS],
+            val: [0; CELLS],
             width,
         }
     }
 
-    // A cell that is not there is not set.
-    pub fn get(self, cell: usize) -> CellAnswer
-        ensures { cell_said result ≡ held self cell }
+    // What a cell holds, or 23. A cell that is not there is not set.
+    pub fn get(&self, cell: usize) -> Result<u64, AmlError>
+        ensures { said result ≡ held self.now cell }
     {
-        if 15 <= cell {
-            return CellAnswer::Refused(AmlError::Unset(cell));
+        if CELLS <= cell {
+            return Err(AmlError::Unset(cell));
         }
-        if self.set[cell] {
-            CellAnswer::Number(self.val[cell])
-        } else {
-            CellAnswer::Refused(AmlError::Unset(cell))
-        }
+        self.load(cell)
     }
 
     // Writing sets the cell; a cell that is not there is not written.
     pub fn with(mut self, cell: usize, number: u64) -> Frame
         ensures { result ≡ wrote self cell number }
     {
-        if 15 <= cell {
-            return self;
+        if cell < CELLS {
+            self.write(cell, number);
         }
+        self
+    }
+
+    pub(crate) fn load(&self, cell: usize) -> Result<u64, AmlError>
+        requires { cell < cells }
+        ensures { said result ≡ held self.now cell }
+    {
+        if self.set[cell] {
+            Ok(self.val[cell])
+        } else {
+            Err(AmlError::Unset(cell))
+        }
+    }
+
+    pub(crate) fn write(&mut self, cell: usize, number: u64)
+        requires { cell < cells }
+        ensures { self.new ≡ wrote self.old cell number }
+    {
         self.set[cell] = true;
         self.val[cell] = number;
-        self
+    }
+
+    // As execution begins, every number keeps its low bits.
+    pub(crate) fn begin(&mut self)
+        ensures { self.new ≡ begun self.old }
+    {
+        number::narrow(&mut self.val, self.width);
     }
 }

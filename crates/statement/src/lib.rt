@@ -2,78 +2,61 @@
 #![tactic(auto)]
 
 ghost use Rattle.std.specs.Prelude.{◌≡◌};
-ghost use Rattle.statement.specs.Lent.{out_said};
+ghost use Rattle.statement.specs.Lent.{list_said};
 ghost use Rattle.statement.specs.Promise.{HasRun, end_said};
 
-use crate::exec::Out;
+use crate::exec::Propagate;
 use crate::frame::Frame;
-use grammar::CheckAnswer;
+use crate::part::Part;
 use pkg_length::AmlError;
 
 mod eval;
 mod exec;
 pub mod frame;
 mod number;
+mod part;
+
+// How deep statements nest, and terms.
+const DEPTH: usize = 16;
 
 // How a run ended.
-#[derive(Clone, Copy)]
+#[derive(Clone, Copy, Debug, PartialEq, Eq)]
 pub enum End {
     Finished,
     Returned(u64),
     BreakOut,
     ContinueOut,
-    Refused(AmlError),
 }
 
-// With whether execution began, which a refusal alone does not tell, the units used, and the frame.
-#[derive(Clone, Copy)]
-pub struct RunAnswer {
-    pub began: bool,
-    pub end: End,
+// How a run that began ended, and the units used; 22 and 23 end one too.
+#[derive(Clone, Copy, Debug, PartialEq, Eq)]
+pub struct Execution {
+    pub end: Result<End, AmlError>,
     pub units: u64,
-    pub frame: Frame,
 }
 
-// Checks the whole block, then executes it. A block that is refused leaves the frame as it came, and takes no unit.
-pub fn run(block: &[u8], frame: Frame, budget: u64) -> RunAnswer
-    ensures { HasRun block.now frame budget result }
+// Checks the whole block, then executes it. The Err is the check's: nothing began, and the frame is as it came.
+pub fn run(block: &[u8], frame: &mut Frame, budget: u64) -> Result<Execution, AmlError>
+    ensures { HasRun block.now frame.old budget frame.new result }
 {
-    let v = grammar::check(block);
-    match v {
-        CheckAnswer::Refused(e) => RunAnswer {
-            began: false,
-            end: End::Refused(e),
-            units: 0,
-            frame,
-        },
-        CheckAnswer::Accepted => {
-            let width = frame.width;
-            let mut set = frame.set;
-            let mut val = frame.val;
-            number::narrow(&mut val, width);
-            let r = exec::term_list(block, 16, &mut set, &mut val, budget, width);
-            let out = r.out;
-            let end = ended(out);
-            let left = Frame { set, val, width };
-            RunAnswer {
-                began: true,
-                end,
-                units: budget - r.units,
-                frame: left,
-            }
-        }
-    }
+    grammar::check(block)?;
+    frame.begin();
+    let mut units = budget;
+    let list = frame.term_list(Part { bytes: block }, DEPTH, &mut units);
+    Ok(Execution {
+        end: ended(list),
+        units: budget - units,
+    })
 }
 
-fn ended(out: Out) -> End
-    ensures { end_said result ≡ out_said out }
+fn ended(list: Result<(), Propagate>) -> Result<End, AmlError>
+    ensures { end_said result ≡ list_said list }
 {
-    match out {
-        Out::Finished => End::Finished,
-        Out::Returned(n) => End::Returned(n),
-        Out::BreakOut => End::BreakOut,
-        Out::ContinueOut => End::ContinueOut,
-        Out::Spent => End::Refused(AmlError::BudgetSpent),
-        Out::Unset(c) => End::Refused(AmlError::Unset(c)),
+    match list {
+        Ok(()) => Ok(End::Finished),
+        Err(Propagate::Return(n)) => Ok(End::Returned(n)),
+        Err(Propagate::Break) => Ok(End::BreakOut),
+        Err(Propagate::Continue) => Ok(End::ContinueOut),
+        Err(Propagate::Refused(e)) => Err(e),
     }
 }

@@ -1,6 +1,5 @@
 // What the operators work out, on numbers of 32 or 64 bits.
 ghost use Rattle.std.specs.Prelude.{◌≡◌, ◌%◌, ◌^◌, not, map, length, ◌==◌};
-ghost use Rattle.grammar.specs.Grammar.{cells};
 ghost use Rattle.statement.specs.Meaning as meaning;
 ghost use Rattle.statement.specs.Frames.{bits, low};
 
@@ -27,14 +26,11 @@ pub(crate) fn wrapped(n: u64, w: Width) -> u64
 }
 
 // Every number of a frame keeps its low bits.
-pub(crate) fn narrow(val: &mut [u64; 15], w: Width)
-    requires { length val.old ≡ cells }
+pub(crate) fn narrow(val: &mut [u64], w: Width)
     ensures { val.new ≡ map (low (bits w)) val.old }
 {
-    let mut i = 0;
-    while i < 15 {
-        val[i] = wrapped(val[i], w);
-        i += 1;
+    for v in val.iter_mut() {
+        *v = wrapped(*v, w);
     }
 }
 
@@ -45,30 +41,12 @@ fn truth(holds: bool, w: Width) -> u64
     if holds { all_ones(w) } else { 0 }
 }
 
-fn both(a: u64, b: u64) -> bool
-    ensures { result ≡ meaning.both (not (a == 0)) (not (b == 0)) }
-{
-    if a == 0 {
-        return false;
-    }
-    b != 0
-}
-
-fn either(a: u64, b: u64) -> bool
-    ensures { result ≡ meaning.either (not (a == 0)) (not (b == 0)) }
-{
-    if a == 0 {
-        return b != 0;
-    }
-    true
-}
-
 pub(crate) fn stepped(op: StepOp, n: u64, w: Width) -> u64
     ensures { result ≡ meaning.stepped (bits w) op n }
 {
     match op {
-        StepOp::Increment => wrapped(std::num::wrapping_add_u64(n, 1), w),
-        StepOp::Decrement => wrapped(std::num::wrapping_add_u64(n, all_ones(w)), w),
+        StepOp::Increment => wrapped(n.wrapping_add(1), w),
+        StepOp::Decrement => wrapped(n.wrapping_add(all_ones(w)), w),
     }
 }
 
@@ -83,7 +61,7 @@ fn find_set_left_bit(n: u64, w: Width) -> u64
     if m == 0 {
         return NO_BIT;
     }
-    64 - u64::leading_zeros(m) as u64
+    64 - u64::from(m.leading_zeros())
 }
 
 // One more than the zeros below the lowest.
@@ -94,7 +72,7 @@ fn find_set_right_bit(n: u64, w: Width) -> u64
     if m == 0 {
         return NO_BIT;
     }
-    u64::trailing_zeros(m) as u64 + 1
+    u64::from(m.trailing_zeros()) + 1
 }
 
 pub(crate) fn unary(op: OneOp, n: u64, w: Width) -> u64
@@ -113,13 +91,13 @@ pub(crate) fn binary(op: TwoOp, a: u64, b: u64, w: Width) -> u64
     ensures { result ≡ meaning.binary (bits w) op a b }
 {
     match op {
-        TwoOp::Add => wrapped(std::num::wrapping_add_u64(a, b), w),
-        TwoOp::Subtract => wrapped(std::num::wrapping_sub_u64(a, b), w),
+        TwoOp::Add => wrapped(a.wrapping_add(b), w),
+        TwoOp::Subtract => wrapped(a.wrapping_sub(b), w),
         TwoOp::And => a & b,
         TwoOp::Or => a | b,
         TwoOp::XOr => a ^ b,
-        TwoOp::LAnd => truth(both(a, b), w),
-        TwoOp::LOr => truth(either(a, b), w),
+        TwoOp::LAnd => truth(a != 0 && b != 0, w),
+        TwoOp::LOr => truth(a != 0 || b != 0, w),
         TwoOp::LEqual => truth(a == b, w),
         TwoOp::LGreater => truth(b < a, w),
         TwoOp::LLess => truth(a < b, w),

@@ -17,8 +17,9 @@ use Rattle.table.specs.Layout.{count_of, binding_of, flat, bind_word}
 use Rattle.table.specs.Valid.{rising}
 use Rattle.table.specs.Memory.{is_well_formed, decode}
 use Rattle.table.specs.Edits.{level_at, alter, scope_of, last_of, handle_in, is_bound, with_binding, with_levels, look_up_answer, bind}
+use Rattle.std.specs.Prelude.{Result, Ok, Err}
 use Rattle.table.specs.Inside.{Sought, here, before, missing, counts, seek_in, slot_in, bindings_at, slot_spot, spot_from, spot_in, Rising, BindingsHeld}
-use Rattle.table.specs.declared.inner.Slot.{Slot}
+use Rattle.table.specs.declared.inner.Place.{Place}
 use Rattle.table.specs.declared.inner.Spot.{Spot}
 use Rattle.table.proofs.Seek.{seek_f, lacking, lacks}
 use Rattle.table.proofs.Focus.{Focus, focus, counts-append, counts-flat}
@@ -32,22 +33,24 @@ at_words : (ls bs : List ℕ) (k : ℕ) → bindings_at ls bs k ≡ map binding_
 unfolding bindings_at
 at_words ls bs k = refl
 
-not-refused : {T : Type 0} {e : AmlError} (k : ℕ) (q : Slot) → slot_spot k q ≡ Spot.Refused e → T
-not-refused k (Slot.Bound h) d = absurd (let z : ◌≡◌ {A = ℕ} 0 1 = cc in omega arith)
-not-refused k (Slot.Free i) d = absurd (let z : ◌≡◌ {A = ℕ} 0 1 = cc in omega arith)
+not-refused : {T : Type 0} {e : AmlError} (k : ℕ) (q : Result ℕ ℕ) → Ok (slot_spot k q) ≡ Err e → T
+not-refused k (Ok h) d = absurd (let z : ◌≡◌ {A = ℕ} 0 1 = cc in omega arith)
+not-refused k (Err i) d = absurd (let z : ◌≡◌ {A = ℕ} 0 1 = cc in omega arith)
 
-slot-of-bound : {h : ℕ} (k : ℕ) (q : Slot) → slot_spot k q ≡ Spot.Bound h → q ≡ Slot.Bound h
-slot-of-bound {h} k (Slot.Bound g) d = let e : g ≡ h = cc in ap Slot.Bound e
-slot-of-bound k (Slot.Free i) d = absurd (let z : ◌≡◌ {A = ℕ} 0 1 = cc in omega arith)
+slot-of-bound : {h : ℕ} (k : ℕ) (q : Result ℕ ℕ) → ◌≡◌ {A = Result Spot AmlError} (Ok (slot_spot k q)) (Ok (Spot.Bound h)) → q ≡ Ok h
+slot-of-bound {h} k (Ok g) d = let e : g ≡ h = cc in ap Ok e
+slot-of-bound k (Err i) d = absurd (let z : ◌≡◌ {A = ℕ} 0 1 = cc in omega arith)
 
-slot-of-free : {at i : ℕ} (k : ℕ) (q : Slot) → slot_spot k q ≡ Spot.Free at i → (q ≡ Slot.Free i) × (k ≡ at)
-slot-of-free k (Slot.Bound h) d = absurd (let z : ◌≡◌ {A = ℕ} 0 1 = cc in omega arith)
-slot-of-free {at} {i} k (Slot.Free j) d = let e : j ≡ i = cc in let f : k ≡ at = cc in (ap Slot.Free e, f)
+slot-of-free : {at i : ℕ} (k : ℕ) (q : Result ℕ ℕ) → ◌≡◌ {A = Result Spot AmlError} (Ok (slot_spot k q)) (Ok (Spot.Free (record { level = at; binding = i }))) → (q ≡ Err i) × (k ≡ at)
+slot-of-free k (Ok h) d = absurd (let z : ◌≡◌ {A = ℕ} 0 1 = cc in omega arith)
+slot-of-free {at} {i} k (Err j) d =
+    let q : ◌≡◌ {A = Place} (record { level = k; binding = j }) (record { level = at; binding = i }) = cc in
+    (ap (λ (p : Place). Err p.binding) q, ap (λ (p : Place). p.level) q)
 
-refused-bound : {T : Type 0} {e : AmlError} {h : ℕ} → Spot.Refused e ≡ Spot.Bound h → T
+refused-bound : {T : Type 0} {e : AmlError} {h : ℕ} → ◌≡◌ {A = Result Spot AmlError} (Err e) (Ok (Spot.Bound h)) → T
 refused-bound d = absurd (let z : ◌≡◌ {A = ℕ} 0 1 = cc in omega arith)
 
-refused-free : {T : Type 0} {e : AmlError} {a i : ℕ} → Spot.Refused e ≡ Spot.Free a i → T
+refused-free : {T : Type 0} {e : AmlError} {a i : ℕ} → ◌≡◌ {A = Result Spot AmlError} (Err e) (Ok (Spot.Free (record { level = a; binding = i }))) → T
 refused-free d = absurd (let z : ◌≡◌ {A = ℕ} 0 1 = cc in omega arith)
 
 module _ (m : Limits) (hm : m.objects ≤ 2 ^ 32) (ws : List ℕ) (ok : is_well_formed m ws ≡ true) where
@@ -100,7 +103,7 @@ module _ (m : Limits) (hm : m.objects ≤ 2 ^ 32) (ws : List ℕ) (ok : is_well_
     -- the level that the last segment stands in is not there, or there is no such level to ask for
     pub record Away : Type 0 where
       pub error : AmlError
-      pub told : spot_in ls bs p ≡ Spot.Refused error
+      pub told : spot_in ls bs p ≡ Err error
       pub looked : look_up_answer t p ≡ refused error
       pub tied : (h : ℕ) → bind m t p h ≡ refused error
 
@@ -108,7 +111,7 @@ module _ (m : Limits) (hm : m.objects ≤ 2 ^ 32) (ws : List ℕ) (ok : is_well_
       pub more : 1 < length p
       pub at : ℕ
       pub level : Focus m.components (is_live t) t.levels 0 0 (scope_of p) 0 at 0
-      pub told : spot_in ls bs p ≡ slot_spot at (slot_in (last_of p) level.b (counts (take at ls)))
+      pub told : spot_in ls bs p ≡ Ok (slot_spot at (slot_in (last_of p) level.b (counts (take at ls))))
 
     module _ (h : 1 < length p) (e : AmlError) (l : level_at 0 t.levels (scope_of p) ≡ refused e) where
       lost-looked : look_up_answer t p ≡ refused e
@@ -123,7 +126,7 @@ module _ (m : Limits) (hm : m.objects ≤ 2 ^ 32) (ws : List ℕ) (ok : is_well_
       root-away : Away
       root-away = record { error = AmlError.RootNotAllowed; told = told; looked = looked; tied = tied }
         where
-          told : spot_in ls bs p ≡ Spot.Refused AmlError.RootNotAllowed
+          told : spot_in ls bs p ≡ Err AmlError.RootNotAllowed
           told = unfold spot_in in rw (le-leb (length p) 1 h)
 
           looked : look_up_answer t p ≡ refuses 13 0
@@ -151,7 +154,7 @@ module _ (m : Limits) (hm : m.objects ≤ 2 ^ 32) (ws : List ℕ) (ok : is_well_
               at = k;
               level = f;
               told = told_at h (here k) e
-                  ∙ ap (λ (b : List Binding). slot_spot k (slot_in (last_of p) b (counts (take k ls)))) (bindings-at m t (whole m hm ws ok) hm ls bs z y (levels-are m hm ws ok) (bindings-are m hm ws ok) (scope_of p) k f);
+                  ∙ ap (λ (b : List Binding). Ok (slot_spot k (slot_in (last_of p) b (counts (take k ls))))) (bindings-at m t (whole m hm ws ok) hm ls bs z y (levels-are m hm ws ok) (bindings-are m hm ws ok) (scope_of p) k f);
             })
         deep h o (before k) e l =
             inr (record {
@@ -189,17 +192,17 @@ module _ (m : Limits) (hm : m.objects ≤ 2 ^ 32) (ws : List ℕ) (ok : is_well_
       unfolding bind
       at-tied h = rw (lt-leb (length p) 1 a.more, a.level.found)
 
-    module _ (r : Spot) (e : r ≡ spot_in ls bs p) where
-      pub spot-refused : (x : AmlError) → r ≡ Spot.Refused x → (look_up_answer t p ≡ refused x) × ((h : ℕ) → bind m t p h ≡ refused x)
+    module _ (r : Result Spot AmlError) (e : r ≡ spot_in ls bs p) where
+      pub spot-refused : (x : AmlError) → r ≡ Err x → (look_up_answer t p ≡ refused x) × ((h : ℕ) → bind m t p h ≡ refused x)
       spot-refused x d = ⊎_elim (λ a. not-refused a.at (slot_in (last_of p) a.level.b (counts (take a.at ls))) (sym a.told ∙ sym e ∙ d)) same view
         where
           same : Away → (look_up_answer t p ≡ refused x) × ((h : ℕ) → bind m t p h ≡ refused x)
           same a =
-              let f : Spot.Refused a.error ≡ Spot.Refused x = sym a.told ∙ sym e ∙ d in
+              let f : ◌≡◌ {A = Result Spot AmlError} (Err a.error) (Err x) = sym a.told ∙ sym e ∙ d in
               let g : a.error ≡ x = cc in
               (a.looked ∙ ap refused g, λ h. a.tied h ∙ ap refused g)
 
-      pub spot-bound : (h : ℕ) → r ≡ Spot.Bound h → (look_up_answer t p ≡ gives h) × ((x : ℕ) → bind m t p x ≡ refuses 17 0)
+      pub spot-bound : (h : ℕ) → r ≡ Ok (Spot.Bound h) → (look_up_answer t p ≡ gives h) × ((x : ℕ) → bind m t p x ≡ refuses 17 0)
       spot-bound h d = ⊎_elim found (λ a. refused-bound (sym a.told ∙ sym e ∙ d)) view
         where
           found : At → (look_up_answer t p ≡ gives h) × ((x : ℕ) → bind m t p x ≡ refuses 17 0)
@@ -207,7 +210,7 @@ module _ (m : Limits) (hm : m.objects ≤ 2 ^ 32) (ws : List ℕ) (ok : is_well_
               let s = slot-bound (last_of p) a.level.b (counts (take a.at ls)) h (slot-of-bound a.at (slot_in (last_of p) a.level.b (counts (take a.at ls))) (sym a.told ∙ sym e ∙ d)) in
               (at-looked a ∙ s.0, λ x. at-tied a x ∙ rw s.1)
 
-      pub spot-live : (h : ℕ) → r ≡ Spot.Bound h → is_live t h ≡ true
+      pub spot-live : (h : ℕ) → r ≡ Ok (Spot.Bound h) → is_live t h ≡ true
       spot-live h d = ⊎_elim found (λ a. refused-bound (sym a.told ∙ sym e ∙ d)) view
         where
           found : At → is_live t h ≡ true
@@ -219,19 +222,19 @@ module _ (m : Limits) (hm : m.objects ≤ 2 ^ 32) (ws : List ℕ) (ok : is_well_
       pub record Open (at i : ℕ) : Type 0 where
         pub more : 1 < length p
         pub level : Focus m.components (is_live t) t.levels 0 0 (scope_of p) 0 at 0
-        pub slot : slot_in (last_of p) level.b (counts (take at ls)) ≡ Slot.Free i
+        pub slot : slot_in (last_of p) level.b (counts (take at ls)) ≡ Err i
         pub looked : look_up_answer t p ≡ refuses 16 0
         pub tied : (h : ℕ) → bind m t p h ≡ cond (leb m.bindings (length (bound t.levels))) (refuses 19 0)
             (gives (with_levels t (alter (with_binding (record { segment = last_of p; handle = h })) t.levels (scope_of p))))
 
-      pub spot-open : (at i : ℕ) → r ≡ Spot.Free at i → Open at i
+      pub spot-open : (at i : ℕ) → r ≡ Ok (Spot.Free (record { level = at; binding = i })) → Open at i
       spot-open at i d = ⊎_elim found (λ a. refused-free (sym a.told ∙ sym e ∙ d)) view
         where
           found : At → Open at i
           found a =
               subst (λ (n : ℕ). Open n i) s.1 (record { more = a.more; level = a.level; slot = s.0; looked = at-looked a ∙ x.none; tied = λ h. at-tied a h ∙ rw x.clear })
             where
-              s : (slot_in (last_of p) a.level.b (counts (take a.at ls)) ≡ Slot.Free i) × (a.at ≡ at)
+              s : (slot_in (last_of p) a.level.b (counts (take a.at ls)) ≡ Err i) × (a.at ≡ at)
               s = slot-of-free a.at (slot_in (last_of p) a.level.b (counts (take a.at ls))) (sym a.told ∙ sym e ∙ d)
 
               x : FreeAt (last_of p) (is_live t) 0 (record { segment = last_of p; handle = 0 }) a.level.b (counts (take a.at ls)) i

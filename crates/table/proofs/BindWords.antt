@@ -14,6 +14,8 @@ use Rattle.table.specs.Layout.{pack, flat, pad, encode, bind_word}
 use Rattle.table.specs.Memory.{is_well_formed, decode, Left}
 use Rattle.table.specs.Edits.{alter, scope_of, last_of, with_binding, with_levels, with_objects, bind}
 use Rattle.table.specs.Inside.{counts, spot_in, bind_words, push}
+use Rattle.std.specs.Prelude.{Result}
+use Rattle.pkg_length.specs.declared.AmlError.{AmlError}
 use Rattle.table.specs.declared.inner.Spot.{Spot}
 use Rattle.table.proofs.Whole.{Whole, length-words, length-pad}
 use Rattle.table.proofs.Focus.{Focus}
@@ -99,7 +101,7 @@ bind-length m ws at i word =
         ap₂ ◌+◌ refl (ap₂ ◌+◌ refl (ap length (sym (drop-drop m.bindings m.levels ws))) ∙ sym (length-append (take m.bindings (drop m.levels ws)) _) ∙ ap length (take-append-drop m.bindings (drop m.levels ws)))
         ∙ sym (length-append (take m.levels ws) (drop m.levels ws)) ∙ ap length (take-append-drop m.levels ws)
 
-module _ (m : Limits) (hm : m.objects ≤ 2 ^ 32) (ws : List ℕ) (ok : is_well_formed m ws ≡ true) (p : List ℕ) (r : Spot)
+module _ (m : Limits) (hm : m.objects ≤ 2 ^ 32) (ws : List ℕ) (ok : is_well_formed m ws ≡ true) (p : List ℕ) (r : Result Spot AmlError)
     (e : r ≡ spot_in (take m.levels ws) (take m.bindings (drop m.levels ws)) p) (at i : ℕ) (o : Open m hm ws ok p r e at i) where
   abbrev t : Tree
   t = decode m ws

@@ -334,9 +334,6 @@ look-same t u q e = look-held u q ∙ ap (λ (a : Answer (List Binding)). cond (
 ended : (p : List ℕ) → 1 < length p → p ≡ scope_of p ++ (last_of p ∷ [])
 ended p h = let o = split-last p h in o.all ∙ ap (λ (l : List ℕ). l ++ (last_of p ∷ [])) (sym o.scope)
 
-some-scope : (p : List ℕ) → 1 < length p → 0 < length (scope_of p)
-some-scope p h = let o = split-last p h in omega (arith, ap length o.scope)
-
 -- a level added
 pub record LevelAdded (t u : Tree) (p : List ℕ) : Type 0 where
   -- it is there, and holds nothing where it is new
@@ -464,10 +461,6 @@ module _ (m : Limits) (t u : Tree) (p : List ℕ) (h : ℕ) (e : bind m t p h �
           go false false d i j k = look-same t u q (levels-elsewhere (scope_of q) (λ e. wrong (under_same (scope_of p)) (ap (under (scope_of p)) (sym e) ∙ j)))
 
 -- one object has another value
-value_same : (t u : Tree) (k : ℕ) → u.objects ≡ t.objects → value_of u k ≡ value_of t k
-unfolding value_of
-value_same t u k e = ap (λ (vs : List ℕ). cond (ltb k (length vs)) (gives (get_or vs k 0)) (refuses 21 0)) e
-
 value-at : (t : Tree) (k : ℕ) → k < length t.objects → value_of t k ≡ gives (get_or t.objects k 0)
 unfolding value_of
 value-at t k h = rw (lt-ltb k (length t.objects) h)

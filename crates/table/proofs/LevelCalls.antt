@@ -10,11 +10,11 @@ use Rattle.pkg_length.specs.Refusal.{Answer, gives, refuses}
 use Rattle.table.specs.Limits.{Limits}
 use Rattle.table.specs.Tree.{Tree, is_live}
 use Rattle.table.specs.Layout.{pack, encode}
-use Rattle.table.specs.Memory.{is_well_formed, decode, Edited, Left, left, done}
+use Rattle.table.specs.Memory.{is_well_formed, decode, Left, left, done}
 use Rattle.table.specs.Edits.{last_of, alter, without, with_levels, add_level_answer, remove_level_answer}
 use Rattle.table.specs.Inside.{Sought, here, before, missing, seek_in, counts, subtree_end, closed, push, placed, subtree_of}
 use Rattle.table.specs.declared.inner.Sought.{Sought as Placed}
-use Rattle.table.specs.declared.inner.Run.{Run}
+use Rattle.table.specs.declared.inner.Place.{Place}
 use Rattle.table.proofs.Seek.{seek_f}
 use Rattle.table.proofs.Focus.{Focus}
 use Rattle.table.proofs.Objects.{whole, words, long}
@@ -23,10 +23,11 @@ use Rattle.table.proofs.AddLevel.{new, grown, add-root, add-here, add-missing, a
 use Rattle.table.proofs.Remove.{place-fits, end_fits, to-fits, from-to, removed-levels, removed-binds, remove-here, remove-before, remove-missing, remove-root}
 
 -- what the pass told
-pub placed-here : (ls : List ℕ) (s : Sought) (a b : ℕ) → placed ls s ≡ Placed.Here a b → (s ≡ here a) × (b ≡ counts (take a ls))
+pub placed-here : (ls : List ℕ) (s : Sought) (a b : ℕ) → placed ls s ≡ Placed.Here (record { level = a; binding = b }) → (s ≡ here a) × (b ≡ counts (take a ls))
 placed-here ls (here k) a b e =
-    let f : k ≡ a = cc in
-    let g : counts (take k ls) ≡ b = cc in
+    let q : ◌≡◌ {A = Place} (record { level = k; binding = counts (take k ls) }) (record { level = a; binding = b }) = cc in
+    let f : k ≡ a = ap (λ (p : Place). p.level) q in
+    let g : counts (take k ls) ≡ b = ap (λ (p : Place). p.binding) q in
     (ap here f, sym g ∙ ap (λ (n : ℕ). counts (take n ls)) f)
 placed-here ls (before k) a b e = absurd (let z : ◌≡◌ {A = ℕ} 0 1 = cc in omega arith)
 placed-here ls (missing n) a b e = absurd (let z : ◌≡◌ {A = ℕ} 0 1 = cc in omega arith)
@@ -44,9 +45,6 @@ placed-missing ls (missing n) a e = let f : n ≡ a = cc in ap missing f
 -- what an answer leaves
 same_left : {A : Type 0} {ws us : List ℕ} {a b : Answer A} → ws ≡ us → a ≡ b → ◌≡◌ {A = Left A} (record { words = ws; said = a }) (record { words = us; said = b })
 same_left e f = λ i. record { words = e i; said = f i }
-
-pub left-refused : {A : Type 0} (m : Limits) (ws : List ℕ) (n p : ℕ) (a : Answer (Edited A)) → a ≡ refuses n p → record { words = ws; said = refuses n p } ≡ left m ws a
-left-refused m ws n p a e = rw e
 
 module _ (m : Limits) (ws : List ℕ) where
   pub done_refused : (n p : ℕ) (a : Answer Tree) → a ≡ refuses n p → record { words = ws; said = refuses n p } ≡ left m ws (done a)
@@ -91,7 +89,7 @@ module _ (m : Limits) (hm : m.objects ≤ 2 ^ 32) (ws : List ℕ) (ok : is_well_
       added-root h = done-given m ws ws (decode m ws) (add_level_answer m (decode m ws) p typ) (add-root m (decode m ws) p typ h) (words m hm ws ok)
 
       module _ (h : 1 < length p) (r : Placed) (e : r ≡ placed ls (seek_in p ls 0 0 0)) where
-        pub added-here : (a b : ℕ) → r ≡ Placed.Here a b → record { words = ws; said = gives tt } ≡ left m ws (done (add_level_answer m (decode m ws) p typ))
+        pub added-here : (a b : ℕ) → r ≡ Placed.Here (record { level = a; binding = b }) → record { words = ws; said = gives tt } ≡ left m ws (done (add_level_answer m (decode m ws) p typ))
         added-here a b d =
             done-given m ws ws (decode m ws) _
             (add-here m (decode m ws) (whole m hm ws ok) p h typ a (led (here a) (placed-here ls (seek_in p ls 0 0 0) a b (sym e ∙ d)).0)) (words m hm ws ok)
@@ -141,7 +139,7 @@ module _ (m : Limits) (hm : m.objects ≤ 2 ^ 32) (ws : List ℕ) (ok : is_well_
       removed-missing n d =
           done_refused m ws 15 n _ (remove-missing m (decode m ws) (whole m hm ws ok) p n h (led (missing n) (placed-missing ls (seek_in p ls 0 0 0) n (sym e ∙ d))))
 
-      module _ (a b : ℕ) (d : r ≡ Placed.Here a b) where
+      module _ (a b : ℕ) (d : r ≡ Placed.Here (record { level = a; binding = b })) where
         pub from_is : b ≡ counts (take a ls)
         from_is = (placed-here ls (seek_in p ls 0 0 0) a b (sym e ∙ d)).1
 
@@ -176,18 +174,18 @@ module _ (m : Limits) (hm : m.objects ≤ 2 ^ 32) (ws : List ℕ) (ok : is_well_
             ∙ removed-binds m (decode m ws) (whole m hm ws ok) p a found.0 ls bs (levels-are m hm ws ok) (bindings-are m hm ws ok)))
 
         -- the code's two moves, one after the other
-        module _ (q : Run) (f : q ≡ subtree_of ls a) (us : List ℕ) (u : us ≡ closed a q.end ls) where
-          end-at : q.end ≡ subtree_end ls a
-          end-at = ap (λ (x : Run). x.end) f
+        module _ (q : Place) (f : q ≡ subtree_of ls a) (us : List ℕ) (u : us ≡ closed a q.level ls) where
+          end-at : q.level ≡ subtree_end ls a
+          end-at = ap (λ (x : Place). x.level) f
 
-          to_at : q.to ≡ counts (take (subtree_end ls a) ls)
-          to_at = ap (λ (x : Run). x.to) f
+          to_at : q.binding ≡ counts (take (subtree_end ls a) ls)
+          to_at = ap (λ (x : Place). x.binding) f
 
-          run-place : (a ≤ q.end) × (q.end ≤ length ls)
+          run-place : (a ≤ q.level) × (q.level ≤ length ls)
           run-place = let x = removed-place in (rw end-at x.1, rw end-at x.2)
 
           pub moved_length : length us ≡ m.levels
-          moved_length = ap length u ∙ length-closed a q.end ls run-place.0 run-place.1 ∙ length-ls
+          moved_length = ap length u ∙ length-closed a q.level ls run-place.0 run-place.1 ∙ length-ls
 
           rest-same : take m.bindings (drop m.levels (us ++ drop m.levels ws)) ≡ bs
           rest-same = ap (take m.bindings) (over-rest m.levels m.bindings us ws moved_length)
@@ -195,10 +193,10 @@ module _ (m : Limits) (hm : m.objects ≤ 2 ^ 32) (ws : List ℕ) (ok : is_well_
           pub moved-long : m.levels + m.bindings ≤ length (us ++ drop m.levels ws)
           moved-long = omega (arith, length-append us (drop m.levels ws), length-drop m.levels ws, moved_length, long m hm ws ok)
 
-          pub moved-range : (b ≤ q.to) × (q.to ≤ length (take m.bindings (drop m.levels (us ++ drop m.levels ws))))
+          pub moved-range : (b ≤ q.binding) × (q.binding ≤ length (take m.bindings (drop m.levels (us ++ drop m.levels ws))))
           moved-range = let x = removed-range in (rw to_at x.0, rw (to_at, rest-same) x.1)
 
-          pub moved : (vs : List ℕ) → vs ≡ closed b q.to (take m.bindings (drop m.levels (us ++ drop m.levels ws)))
+          pub moved : (vs : List ℕ) → vs ≡ closed b q.binding (take m.bindings (drop m.levels (us ++ drop m.levels ws)))
               → record { words = take m.levels (us ++ drop m.levels ws) ++ (vs ++ drop m.bindings (drop m.levels (us ++ drop m.levels ws))); said = gives tt }
               ≡ left m ws (done (remove_level_answer (decode m ws) p))
           moved vs v =
@@ -207,9 +205,9 @@ module _ (m : Limits) (hm : m.objects ≤ 2 ^ 32) (ws : List ℕ) (ok : is_well_
               (drop-drop m.bindings m.levels (us ++ drop m.levels ws) ∙ over_last m.levels m.bindings us ws moved_length)) refl
               ∙ removed-here us vs (u ∙ ap (λ (n : ℕ). closed a n ls) end-at) (v ∙ ap₂ (closed b) to_at rest-same)
 
-  pub run_fits : (p : List ℕ) (h : 1 < length p) (r : Placed) (e : r ≡ placed ls (seek_in p ls 0 0 0)) (a b : ℕ) (d : r ≡ Placed.Here a b) (q : Run) → q ≡ subtree_of ls a
-      → (a ≤ q.end) × (q.end ≤ length ls)
+  pub run_fits : (p : List ℕ) (h : 1 < length p) (r : Placed) (e : r ≡ placed ls (seek_in p ls 0 0 0)) (a b : ℕ) (d : r ≡ Placed.Here (record { level = a; binding = b })) (q : Place) → q ≡ subtree_of ls a
+      → (a ≤ q.level) × (q.level ≤ length ls)
   run_fits p h r e a b d q f =
       let x = removed-place p h r e a b d in
-      let g : q.end ≡ subtree_end ls a = ap (λ (x : Run). x.end) f in
+      let g : q.level ≡ subtree_end ls a = ap (λ (x : Place). x.level) f in
       (rw g x.1, rw g x.2)

@@ -86,7 +86,7 @@ module _ (m : Limits) (hm : m.objects ≤ 2 ^ 32) (ws : List ℕ) (ok : is_well_
   pub listed-missing : (n : ℕ) → r ≡ Placed.Missing n → levels_from (decode m ws) (x ∷ q) ≡ refuses 15 n
   listed-missing n d = none_from n (lacked (missing n) (placed-missing ls (seek_in (x ∷ q) ls 0 0 0) n (sym e ∙ d)))
 
-  module _ (a b : ℕ) (d : r ≡ Placed.Here a b) where
+  module _ (a b : ℕ) (d : r ≡ Placed.Here (record { level = a; binding = b })) where
     found : Focus m.components (is_live (decode m ws)) (decode m ws).levels 0 0 (x ∷ q) 0 a 0
     found = focus m.components (is_live (decode m ws)) (decode m ws).levels 0 0 x q 0 0 a (whole m hm ws ok).forest (led (here a) (placed-here ls (seek_in (x ∷ q) ls 0 0 0) a b (sym e ∙ d)).0)
 

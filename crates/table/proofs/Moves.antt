@@ -1,13 +1,17 @@
 -- Room made in, and taken out of, a list of fixed length: what a turn of each loop does.
-use mathlib.Core.Path.{◌≡◌, refl, ap}
+use mathlib.Core.Path.{◌≡◌, refl, ap, sym, ◌∙◌}
 use mathlib.Core.List.{List, [], ◌∷◌, ◌++◌, append_assoc, append-nil, map, map-append}
 use Prim.Native.Nat.{ℕ, zero, suc, ◌+◌, ◌-◌, ◌<◌, ◌≤◌}
-use native.Mathlib.Nat.{not-suc-le-zero, le_of_suc-le-suc, sub-eq-zero_of_le, le_of_eq}
+use native.Mathlib.Nat.{not-suc-le-zero, le_of_suc-le-suc}
 use native.Mathlib.Numerals.{add-one}
 use native.Mathlib.Omega.{arith}
-use lib.ListN.{length, take, drop, get_or, set, replicate, drop_of_length-le}
-use lib.Seq.{take_all, drop-set-lt, take-suc-set, drop-cons, set_split}
-use Rattle.table.specs.Inside.{push}
+use lib.ListN.{length, take, drop, get_or, set, replicate, drop_of_length-le, length-drop, length-append, length-replicate}
+use lib.Seq.{take_all, drop-set-lt, take-suc-set, drop-cons, set_split, length-take-le}
+use Rattle.table.specs.Inside.{push, closed}
+use borrow.Rule.Slice.PartMut.{put_mid}
+use Rattle.std.proofs.Math.Seq.{paste}
+use Rattle.std.proofs.lemmas.Slice.{put_mid-paste}
+use Rattle.std.proofs.lemmas.List.Edits.{paste_all, paste-paste, length-paste}
 use mathlib.Core.Bool.{Bool, true}
 use borrow.Author.Tests.{eq-eqb, ne_eqb}
 use Rattle.table.specs.Tree.{Binding, Forest, none, level, bound}
@@ -90,34 +94,24 @@ pub push-done : (i c : ℕ) (xs : List ℕ) → length xs ≤ i → take i xs ++
 unfolding push
 push-done i c xs h = rw (take_all i xs h, drop_of_length-le xs h, append-nil)
 
--- a turn of the loop that closes a gap: what is at j goes to i
-pub pull-turn : (i j : ℕ) (xs zs : List ℕ) → i ≤ j → j < length xs
-    → take (i + 1) (set xs i (get_or xs j 0)) ++ (drop (j + 1) (set xs i (get_or xs j 0)) ++ zs) ≡ take i xs ++ (drop j xs ++ zs)
-pull-turn i j xs zs h l =
-    rw (
-      add-one i,
-      add-one j,
-      take-suc-set xs i (get_or xs j 0) (omega arith),
-      drop-set-lt (suc j) xs i (get_or xs j 0) (omega arith),
-      append_assoc (take i xs) (get_or xs j 0 ∷ []) (drop (suc j) xs ++ zs),
-      drop-cons xs j 0 l,
-    )
+-- what stands behind the gap comes to its start, and zeros are written over the rest
+pub gap-closed : (xs : List ℕ) (a e : ℕ) → a ≤ e → e ≤ length xs → (ys zs : List ℕ) → ys ≡ paste xs a (drop e xs) (length xs - e)
+    → zs ≡ replicate (length (take (length ys - (length xs - (e - a))) (drop (length xs - (e - a)) ys))) 0
+    → put_mid (length xs - (e - a)) (length ys - (length xs - (e - a))) ys zs ≡ closed a e xs
+unfolding closed
+gap-closed xs a e h k ys zs p q =
+    put_mid-paste (length xs - (e - a)) (length ys - (length xs - (e - a))) ys zs (replicate (e - a) 0) (e - a) zeros (omega (arith, long)) (sym (length-replicate (e - a) 0))
+    ∙ (λ i. paste (p i) (kept i) (replicate (e - a) 0) (e - a))
+    ∙ paste-paste xs a (drop e xs) (replicate (e - a) 0) (length xs - e) (e - a) (omega (arith, length-drop e xs)) (sym (length-replicate (e - a) 0)) (omega arith)
+    ∙ paste_all xs a (drop e xs ++ replicate (e - a) 0) (length xs - e + (e - a)) (omega (arith, length-append (drop e xs) (replicate (e - a) 0), length-drop e xs, length-replicate {A = ℕ} (e - a) 0))
+    ∙ ap (λ (l : List ℕ). take a xs ++ ((drop e xs ++ replicate (e - a) 0) ++ l)) (drop_of_length-le xs (omega arith))
+    ∙ ap (λ (l : List ℕ). take a xs ++ l) (append-nil (drop e xs ++ replicate (e - a) 0))
+  where
+    long : length ys ≡ length xs
+    long = ap length p ∙ length-paste xs a (drop e xs) (length xs - e) (omega arith) (omega (arith, length-drop e xs))
 
-less : (n i : ℕ) → i < n → suc (n - suc i) ≡ n - i
-less n i h = omega arith
+    kept : length xs - (e - a) ≡ a + (length xs - e)
+    kept = omega arith
 
-pub fill-turn : (i : ℕ) (xs : List ℕ) → i < length xs
-    → take (i + 1) (set xs i 0) ++ replicate (length xs - (i + 1)) 0 ≡ take i xs ++ replicate (length xs - i) 0
-fill-turn i xs h =
-    rw (add-one i, take-suc-set xs i 0 h, append_assoc (take i xs) (0 ∷ []) (replicate (length xs - suc i) 0))
-    (ap (λ (n : ℕ). take i xs ++ replicate n 0) (less (length xs) i h))
-
-pub fill_done : (i : ℕ) (xs : List ℕ) → length xs ≤ i → xs ≡ take i xs ++ replicate (length xs - i) 0
-fill_done i xs h = rw (sub-eq-zero_of_le h, take_all i xs h, append-nil)
-
-left : (m i j n : ℕ) → m ≡ j → i + n ≡ j → m - i ≡ n
-left m i j n h k = omega arith
-
-pub gap-done : (i j : ℕ) (xs : List ℕ) (n : ℕ) → length xs ≡ j → i + n ≡ j
-    → take i xs ++ replicate (length xs - i) 0 ≡ take i xs ++ (drop j xs ++ replicate n 0)
-gap-done i j xs n h k = rw (drop_of_length-le xs (le_of_eq h)) (ap (λ (m : ℕ). take i xs ++ replicate m 0) (left (length xs) i j n h k))
+    zeros : zs ≡ replicate (e - a) 0
+    zeros = q ∙ ap (λ (n : ℕ). replicate n 0) (omega (arith, long, length-take-le (length ys - (length xs - (e - a))) (drop (length xs - (e - a)) ys) (omega (arith, length-drop (length xs - (e - a)) ys)), length-drop (length xs - (e - a)) ys))

@@ -18,7 +18,9 @@ use Rattle.table.specs.Valid.{rising}
 use Rattle.table.specs.Memory.{is_well_formed, decode}
 use Rattle.table.specs.Edits.{reached, level_at, scope_of, last_of, handle_in, look_up_answer}
 use Rattle.table.specs.Search.{Found, or_on, outward, value_held_in, level_in}
+use Rattle.std.specs.Prelude.{Result, Ok, Err}
 use Rattle.table.specs.Inside.{Sought, here, before, missing, spot_in, Deep, closer, deepest, spotted, seen, value_held, level_held}
+use Rattle.pkg_length.specs.declared.AmlError.{AmlError}
 use Rattle.table.specs.declared.inner.Spot.{Spot}
 use Rattle.table.proofs.Facts.{suc-plus, zero-plus}
 use Rattle.table.proofs.Shape.{Valid, level-tests, binding-tests, LevelFit}
@@ -200,23 +202,23 @@ module _ (m : Limits) (hm : m.objects ≤ 2 ^ 32) (ws : List ℕ) (ok : is_well_
     unfolding value_held_in value_held
     same-value = rw (with-last c ns n h, length-take-le n ns h) (go (spot_in ls bs p) refl)
       where
-        go : (r : Spot) → r ≡ spot_in ls bs p → Alike (cond (ltb n m.components) (look_up_answer t p) (refuses 16 0)) (spotted r)
-        go (Spot.Bound v) e =
-            let x = (spot-bound m hm ws ok p (Spot.Bound v) e v refl).0 in
+        go : (r : Result Spot AmlError) → r ≡ spot_in ls bs p → Alike (cond (ltb n m.components) (look_up_answer t p) (refuses 16 0)) (spotted r)
+        go (Ok (Spot.Bound v)) e =
+            let x = (spot-bound m hm ws ok p (Ok (Spot.Bound v)) e v refl).0 in
             rw (lt-ltb n m.components (value_low v x), x) refl
-        go (Spot.Free k i) e = alike-refused (ltb n m.components) (look_up_answer t p) 16 0 16 0 16 0 (spot-open m hm ws ok p (Spot.Free k i) e k i refl).looked
-        go (Spot.Refused x) e = alike-refused (ltb n m.components) (look_up_answer t p) _ _ 16 0 16 0 (spot-refused m hm ws ok p (Spot.Refused x) e x refl).0
+        go (Ok (Spot.Free q)) e = alike-refused (ltb n m.components) (look_up_answer t p) 16 0 16 0 16 0 (spot-open m hm ws ok p (Ok (Spot.Free q)) e q.level q.binding refl).looked
+        go (Err x) e = alike-refused (ltb n m.components) (look_up_answer t p) _ _ 16 0 16 0 (spot-refused m hm ws ok p (Err x) e x refl).0
 
     value-held : (v : ℕ) → value_held ls bs (keys ns) (key c) n ≡ gives v → (n < m.components) × (is_live t v ≡ true)
     unfolding value_held
     value-held v = go (spot_in ls bs p) refl
       where
-        go : (r : Spot) → r ≡ spot_in ls bs p → spotted r ≡ gives v → (n < m.components) × (is_live t v ≡ true)
-        go (Spot.Bound x) e d =
+        go : (r : Result Spot AmlError) → r ≡ spot_in ls bs p → spotted r ≡ gives v → (n < m.components) × (is_live t v ≡ true)
+        go (Ok (Spot.Bound x)) e d =
             let y : x ≡ v = gives_same d in
-            (value_low x (spot-bound m hm ws ok p (Spot.Bound x) e x refl).0, rw (← y) (spot-live m hm ws ok p (Spot.Bound x) e x refl))
-        go (Spot.Free k i) e d = refuses-not d
-        go (Spot.Refused x) e d = refuses-not d
+            (value_low x (spot-bound m hm ws ok p (Ok (Spot.Bound x)) e x refl).0, rw (← y) (spot-live m hm ws ok p (Ok (Spot.Bound x)) e x refl))
+        go (Ok (Spot.Free q)) e d = refuses-not d
+        go (Err x) e d = refuses-not d
 
     -- levels
     level-seen : (q : List ℕ) → 0 < length q → (x : Sought) → seek_f t.levels q 0 0 0 ≡ x → Alike (and_then (level_at 0 t.levels q) (λ l. gives tt)) (seen x)

@@ -1,14 +1,13 @@
 -- A segment among a level's bindings: the pass finds what the definitions say, and where a new binding goes.
-use mathlib.Core.Path.{◌≡◌, refl, ap, sym, subst, ◌∙◌}
-use mathlib.Core.Logic.{⊎_elim}
+use mathlib.Core.Path.{◌≡◌, refl, ap, sym, ◌∙◌}
+use mathlib.Core.Logic.{◌⊎◌, inl, inr}
 use mathlib.Core.Bool.{Bool, true, false, cond, ◌||◌}
 use mathlib.Core.List.{List, [], ◌∷◌, ◌++◌, map}
 use Prim.Native.Nat.{ℕ, zero, suc, ◌+◌, ◌-◌, ◌/◌, ◌%◌, ◌<◌, ◌≤◌, ◌^◌}
 use native.Mathlib.Omega.{arith}
-use native.Mathlib.Numerals.{add-one}
 use lib.Dec.{ltb, eqb}
-use lib.ListN.{length, take, drop, get_or, length-drop}
-use lib.Seq.{slice, slice-cons, slice_empty, get_or-take, get_or-drop, length-take-le}
+use lib.ListN.{length, take, drop, get_or, length-drop, drop_of_length-le}
+use lib.Seq.{drop-cons, get_or-take, get_or-drop, length-take-le}
 use borrow.Author.Tests.{ltb-true, ltb-false, eqb-false, lt-ltb, le-ltb, eq-eqb, ne_eqb}
 use Rattle.pkg_length.proofs.Answers.{wrong}
 use Rattle.pkg_length.specs.Refusal.{gives, refuses}
@@ -17,9 +16,14 @@ use Rattle.table.specs.Tree.{Binding}
 use Rattle.table.specs.Layout.{binding_of}
 use Rattle.table.specs.Valid.{segment_ok, rising}
 use Rattle.table.specs.Edits.{handle_in, is_bound, insert_binding}
+use Rattle.std.specs.Prelude.{Result, Ok, Err}
 use Rattle.table.specs.Inside.{slot_in, Rising}
-use Rattle.table.specs.declared.inner.Slot.{Slot}
-use Rattle.table.proofs.Facts.{take-slice, plus-zero, lt-or-le}
+use Rattle.std.specs.List.Sorted.{IsBinarySearchResult, IsNonDecreasingBy}
+use Rattle.std.specs.Ordering.{nat_cmp, ordering_index}
+use Rattle.std.proofs.lemmas.Cmp.{ranked}
+use Rattle.std.proofs.lemmas.List.Sorted.{IsNonDecreasingBy-from_default}
+use Rattle.std.proofs.lemmas.Bool.Decides.{nat_tests}
+use Rattle.table.proofs.Facts.{plus-zero, lt-or-le}
 
 -- more handles
 pub rising-more : (live more : ℕ → Bool) (lo : ℕ) (bs : List Binding) → ((h : ℕ) → live h ≡ true → more h ≡ true) → rising live lo bs ≡ true → rising more lo bs ≡ true
@@ -28,33 +32,33 @@ rising-more live more lo (b ∷ bs) f e =
     let t = binding-tests live lo b bs e in
     tests-binding more lo b bs (record { rises = t.rises; named = t.named; alive = f b.handle t.alive; later = rising-more live more (suc b.segment) bs f t.later })
 
-bound-free : {T : Type 0} {h i : ℕ} → Slot.Bound h ≡ Slot.Free i → T
+bound-free : {T : Type 0} {h i : ℕ} → ◌≡◌ {A = Result ℕ ℕ} (Ok h) (Err i) → T
 bound-free e = absurd (let z : ◌≡◌ {A = ℕ} 0 1 = cc in omega arith)
 
 -- a segment that is bound
 module _ (s : ℕ) where
-  pub slot-bound : (b : List Binding) (i h : ℕ) → slot_in s b i ≡ Slot.Bound h → (handle_in s b ≡ gives h) × (is_bound s b ≡ true)
+  pub slot-bound : (b : List Binding) (i h : ℕ) → slot_in s b i ≡ Ok h → (handle_in s b ≡ gives h) × (is_bound s b ≡ true)
   unfolding slot_in handle_in is_bound
   slot-bound [] i h e = bound-free (sym e)
   slot-bound (b ∷ bs) i h e = go (slot-bound bs (suc i) h) (eqb b.segment s) (ltb s b.segment) e
     where
-      go : (slot_in s bs (suc i) ≡ Slot.Bound h → (handle_in s bs ≡ gives h) × (is_bound s bs ≡ true))
-          → (x y : Bool) → cond x (Slot.Bound b.handle) (cond y (Slot.Free i) (slot_in s bs (suc i))) ≡ Slot.Bound h
+      go : (slot_in s bs (suc i) ≡ Ok h → (handle_in s bs ≡ gives h) × (is_bound s bs ≡ true))
+          → (x y : Bool) → cond x (Ok b.handle) (cond y (Err i) (slot_in s bs (suc i))) ≡ Ok h
           → (cond x (gives b.handle) (handle_in s bs) ≡ gives h) × (x || is_bound s bs ≡ true)
       go f true y e = (let d : b.handle ≡ h = cc in ap gives d, refl)
       go f false true e = bound-free (sym e)
       go f false false e = f e
 
   -- what it is bound to is a handle that was handed out
-  pub slot-live : (live : ℕ → Bool) (lo : ℕ) (b : List Binding) (i h : ℕ) → rising live lo b ≡ true → slot_in s b i ≡ Slot.Bound h → live h ≡ true
+  pub slot-live : (live : ℕ → Bool) (lo : ℕ) (b : List Binding) (i h : ℕ) → rising live lo b ≡ true → slot_in s b i ≡ Ok h → live h ≡ true
   unfolding slot_in
   slot-live live lo [] i h r e = bound-free (sym e)
   slot-live live lo (b ∷ bs) i h r e =
       let t = binding-tests live lo b bs r in
       go t.alive (slot-live live (suc b.segment) bs (suc i) h t.later) (eqb b.segment s) (ltb s b.segment) e
     where
-      go : live b.handle ≡ true → (slot_in s bs (suc i) ≡ Slot.Bound h → live h ≡ true)
-          → (x y : Bool) → cond x (Slot.Bound b.handle) (cond y (Slot.Free i) (slot_in s bs (suc i))) ≡ Slot.Bound h → live h ≡ true
+      go : live b.handle ≡ true → (slot_in s bs (suc i) ≡ Ok h → live h ≡ true)
+          → (x y : Bool) → cond x (Ok b.handle) (cond y (Err i) (slot_in s bs (suc i))) ≡ Ok h → live h ≡ true
       go l f true y e = let d : b.handle ≡ h = cc in rw d at l
       go l f false true e = bound-free (sym e)
       go l f false false e = f e
@@ -78,7 +82,7 @@ module _ (s : ℕ) where
     pub clear : is_bound s b ≡ false
     pub up : segment_ok s ≡ true → live x.handle ≡ true → lo ≤ s → rising live lo (insert_binding x b) ≡ true
 
-  pub slot-free : (live : ℕ → Bool) (lo : ℕ) (x : Binding) (b : List Binding) (i j : ℕ) → x.segment ≡ s → rising live lo b ≡ true → slot_in s b i ≡ Slot.Free j → FreeAt live lo x b i j
+  pub slot-free : (live : ℕ → Bool) (lo : ℕ) (x : Binding) (b : List Binding) (i j : ℕ) → x.segment ≡ s → rising live lo b ≡ true → slot_in s b i ≡ Err j → FreeAt live lo x b i j
   unfolding slot_in handle_in is_bound insert_binding
   slot-free live lo x [] i j q r e =
       let d : i ≡ j = cc in
@@ -99,8 +103,8 @@ module _ (s : ℕ) where
       same : ltb x.segment b.segment ≡ ltb s b.segment
       same = ap (λ (n : ℕ). ltb n b.segment) q
 
-      go : BindingTests live lo b bs → (slot_in s bs (suc i) ≡ Slot.Free j → FreeAt live (suc b.segment) x bs (suc i) j)
-          → (c d : Bool) → eqb b.segment s ≡ c → ltb s b.segment ≡ d → cond c (Slot.Bound b.handle) (cond d (Slot.Free i) (slot_in s bs (suc i))) ≡ Slot.Free j
+      go : BindingTests live lo b bs → (slot_in s bs (suc i) ≡ Err j → FreeAt live (suc b.segment) x bs (suc i) j)
+          → (c d : Bool) → eqb b.segment s ≡ c → ltb s b.segment ≡ d → cond c (Ok b.handle) (cond d (Err i) (slot_in s bs (suc i))) ≡ Err j
           → FreeAt live lo x (b ∷ bs) i j
       go t f true d p y e = bound-free e
       go t f false true p y e =
@@ -139,62 +143,54 @@ module _ (s : ℕ) where
 pub free-slot : (s : ℕ) (live : ℕ → Bool) (x : Binding) (b : List Binding) (i : ℕ) → x.segment ≡ s → rising live 0 b ≡ true → is_bound s b ≡ false → (j : ℕ) × FreeAt s live 0 x b i j
 free-slot s live x b i q r n = go (slot_in s b i) refl
   where
-    go : (a : Slot) → slot_in s b i ≡ a → (j : ℕ) × FreeAt s live 0 x b i j
-    go (Slot.Bound h) e = wrong (slot-bound s b i h e).1 n
-    go (Slot.Free j) e = (j, slot-free s live 0 x b i j q r e)
-
--- what a turn of the loop does
-pub slot-start : (s f n : ℕ) (l : List ℕ) → f ≤ length l → slot_in s (map binding_of (slice f (f + n) l)) f ≡ slot_in s (map binding_of (take n (drop f l))) f
-slot-start s f n l h = ap (λ (x : List ℕ). slot_in s (map binding_of x) f) (sym (take-slice f n l h))
-
-module _ (s i e : ℕ) (l : List ℕ) (h : i < e) (k : e ≤ length l) where
-  pub slot-here : get_or l i 0 / 2 ^ 32 ≡ s → Slot.Bound (get_or l i 0 % 2 ^ 32) ≡ slot_in s (map binding_of (slice i e l)) i
-  unfolding slot_in
-  slot-here x = sym (rw (slice-cons i e l 0 h k, eq-eqb (get_or l i 0 / 2 ^ 32) s x))
-
-  pub slot-before : (get_or l i 0 / 2 ^ 32 ≡ s → ⊥) → s < get_or l i 0 / 2 ^ 32 → Slot.Free i ≡ slot_in s (map binding_of (slice i e l)) i
-  unfolding slot_in
-  slot-before n x = sym (rw (slice-cons i e l 0 h k, ne_eqb (get_or l i 0 / 2 ^ 32) s n, lt-ltb s (get_or l i 0 / 2 ^ 32) x))
-
-  pub slot-on : (get_or l i 0 / 2 ^ 32 ≡ s → ⊥) → get_or l i 0 / 2 ^ 32 ≤ s → slot_in s (map binding_of (slice (i + 1) e l)) (i + 1) ≡ slot_in s (map binding_of (slice i e l)) i
-  unfolding slot_in
-  slot-on n x = sym (rw (add-one i, slice-cons i e l 0 h k, ne_eqb (get_or l i 0 / 2 ^ 32) s n, le-ltb s (get_or l i 0 / 2 ^ 32) x))
-
-pub slot-end : (s i e : ℕ) (l : List ℕ) → i ≡ e → Slot.Free e ≡ slot_in s (map binding_of (slice i e l)) i
-unfolding slot_in
-slot-end s i e l h = rw (h, slice_empty e l)
+    go : (a : Result ℕ ℕ) → slot_in s b i ≡ a → (j : ℕ) × FreeAt s live 0 x b i j
+    go (Ok h) e = wrong (slot-bound s b i h e).1 n
+    go (Err j) e = (j, slot-free s live 0 x b i j q r e)
 
 -- smaller segments are passed over
-module _ (s : ℕ) (l : List ℕ) (f e : ℕ) (k : e ≤ length l) where
-  skip : (n : ℕ) → f + n ≤ e → ((i : ℕ) → f ≤ i → i < f + n → get_or l i 0 / 2 ^ 32 < s)
-      → slot_in s (map binding_of (slice (f + n) e l)) (f + n) ≡ slot_in s (map binding_of (slice f e l)) f
-  skip zero h b = ap (λ (i : ℕ). slot_in s (map binding_of (slice i e l)) i) (sym (plus-zero f))
-  skip (suc n) h b =
-      let x = b (f + n) (omega arith) (omega arith) in
-      ap (λ (i : ℕ). slot_in s (map binding_of (slice i e l)) i) (more f n)
-      ∙ slot-on s (f + n) e l (omega arith) k (λ y. omega arith) (omega arith)
-      ∙ skip n (omega arith) (λ i x y. b i x (omega arith))
-    where
-      more : (f n : ℕ) → f + suc n ≡ f + n + 1
-      more f n = omega arith
-
--- what the halving leaves: all before it is smaller
-pub slot-from : (s f n i : ℕ) (l : List ℕ) → f ≤ i → i ≤ f + n → f + n ≤ length l → ((j : ℕ) → f ≤ j → j < i → get_or l j 0 / 2 ^ 32 < s)
-    → slot_in s (map binding_of (slice i (f + n) l)) i ≡ slot_in s (map binding_of (take n (drop f l))) f
-slot-from s f n i l h g k b =
-    ap (λ (x : ℕ). slot_in s (map binding_of (slice x (f + n) l)) x) (there f i h)
-    ∙ skip s l f (f + n) k (i - f) (omega arith) (λ j x y. b j x (omega arith)) ∙ slot-start s f n l (omega arith)
+slot-passed : (s f i : ℕ) (l : List ℕ) → i ≤ length l → ((j : ℕ) → j < i → get_or l j 0 / 2 ^ 32 < s) → slot_in s (map binding_of (drop i l)) (f + i) ≡ slot_in s (map binding_of l) f
+unfolding slot_in
+slot-passed s f zero l h b = ap (slot_in s (map binding_of l)) (sym (plus-zero f))
+slot-passed s f (suc i) [] h b = absurd (omega arith)
+slot-passed s f (suc i) (w ∷ l) h b = ap (slot_in s (map binding_of (drop i l))) (more f i) ∙ slot-passed s (suc f) i l (omega arith) (λ j k. b (suc j) (omega arith)) ∙ on (b 0 (omega arith))
   where
-    there : (f i : ℕ) → f ≤ i → i ≡ f + (i - f)
-    there f i h = omega arith
+    more : (f i : ℕ) → f + suc i ≡ suc f + i
+    more f i = omega arith
 
--- which half a segment is in
-module _ (bs : List ℕ) (f n : ℕ) (r : Rising bs f n) (s : ℕ) where
-  pub halved : (i mid : ℕ) → f ≤ i → i ≤ mid → mid < f + n → get_or bs mid 0 / 2 ^ 32 < s → get_or bs i 0 / 2 ^ 32 < s
-  halved i mid h k l e = ⊎_elim (λ x. omega (arith, r i mid h x l)) (λ x. let y : mid ≡ i = omega arith in subst (λ (j : ℕ). get_or bs j 0 / 2 ^ 32 < s) y e) (lt-or-le i mid)
+    on : w / 2 ^ 32 < s → slot_in s (map binding_of l) (suc f) ≡ slot_in s (map binding_of (w ∷ l)) f
+    on x = sym (rw (ne_eqb (w / 2 ^ 32) s (λ e. omega arith), le-ltb s (w / 2 ^ 32) (omega arith)))
 
-  pub halved-up : (mid i : ℕ) → f ≤ mid → mid ≤ i → i < f + n → s ≤ get_or bs mid 0 / 2 ^ 32 → s ≤ get_or bs i 0 / 2 ^ 32
-  halved-up mid i h k l e = ⊎_elim (λ x. omega (arith, r mid i h x l)) (λ x. let y : mid ≡ i = omega arith in subst (λ (j : ℕ). s ≤ get_or bs j 0 / 2 ^ 32) y e) (lt-or-le mid i)
+-- what a search by halves tells of words whose segments rise
+module _ (s f : ℕ) (l : List ℕ) (rises : (i j : ℕ) → i < j → j < length l → get_or l i 0 / 2 ^ 32 < get_or l j 0 / 2 ^ 32) where
+  comparisons-rise : IsNonDecreasingBy (λ w. ordering_index (nat_cmp (w / 2 ^ 32) s)) l
+  comparisons-rise = IsNonDecreasingBy-from_default (λ w. ordering_index (nat_cmp (w / 2 ^ 32) s)) l 0 (λ i j le in_range.
+      let up : get_or l i 0 / 2 ^ 32 ≤ get_or l j 0 / 2 ^ 32 = grind (arith, rises i j, λ (same : i ≡ j). ap (λ (k : ℕ). get_or l k 0 / 2 ^ 32) same) in
+      grind (arith, nat_tests))
+
+  pub slot-searched : (i : ℕ) → i < length l → IsBinarySearchResult (λ w. nat_cmp (w / 2 ^ 32) s) l (Ok i) → Ok (get_or l i 0 % 2 ^ 32) ≡ slot_in s (map binding_of l) f
+  unfolding slot_in
+  slot-searched i h equal =
+      let e : get_or l i 0 / 2 ^ 32 ≡ s = ranked _ s _ (sym (equal 0)) in
+      sym (rw (drop-cons l i 0 h, eq-eqb (get_or l i 0 / 2 ^ 32) s e)) ∙ slot-passed s f i l (omega arith) (λ j k. omega (arith, rises j i k h))
+
+  pub slot-missed : (i : ℕ) → i ≤ length l → IsBinarySearchResult (λ w. nat_cmp (w / 2 ^ 32) s) l (Err i) → Err (f + i) ≡ slot_in s (map binding_of l) f
+  unfolding slot_in
+  slot-missed i h parted = stop (lt-or-le i (length l)) ∙ slot-passed s f i l h (λ j k. ranked _ s _ (sym ((parted comparisons-rise).0 j 0 (omega arith) k)))
+    where
+      stop : (i < length l) ⊎ (length l ≤ i) → Err (f + i) ≡ slot_in s (map binding_of (drop i l)) (f + i)
+      stop (inl k) =
+          let above : s < get_or l i 0 / 2 ^ 32 = ranked _ s _ (sym ((parted comparisons-rise).1 i 0 (omega arith) k)) in
+          sym (rw (drop-cons l i 0 k, ne_eqb (get_or l i 0 / 2 ^ 32) s (λ e. omega arith), lt-ltb s (get_or l i 0 / 2 ^ 32) above))
+      stop (inr k) = sym (rw (drop_of_length-le l k))
+
+-- a level's own words rise
+pub own-rise : (bs : List ℕ) (f n : ℕ) → f + n ≤ length bs → Rising bs f n → (i j : ℕ) → i < j → j < length (take n (drop f bs)) → get_or (take n (drop f bs)) i 0 / 2 ^ 32 < get_or (take n (drop f bs)) j 0 / 2 ^ 32
+own-rise bs f n h r i j a b =
+    let k : j < n = omega (arith, length-take-le n (drop f bs) (omega (arith, length-drop f bs))) in
+    rw (at i (omega arith), at j k) (r (f + i) (f + j) (omega arith) (omega arith) (omega arith))
+  where
+    at : (x : ℕ) → x < n → get_or (take n (drop f bs)) x 0 ≡ get_or bs (f + x) 0
+    at x y = get_or-take n (drop f bs) x 0 y ∙ get_or-drop f bs x 0
 
 -- a level's bindings rise
 module _ (live : ℕ → Bool) where

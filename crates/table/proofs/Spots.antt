@@ -11,10 +11,9 @@ use borrow.Author.Tests.{lt-leb, le-leb}
 use Rattle.pkg_length.specs.declared.AmlError.{AmlError}
 use Rattle.table.specs.Layout.{rank_of, count_of, seg_of, binding_of}
 use Rattle.table.specs.Edits.{scope_of, last_of}
+use Rattle.std.specs.Prelude.{Result, Ok, Err}
 use Rattle.table.specs.Inside.{Sought, here, before, missing, gone, seek_in, counts, placed, slot_in, bindings_at, slot_spot, spot_from, spot_in, Rising, BindingsHeld}
 use Rattle.table.specs.declared.inner.Sought.{Sought as Placed}
-use Rattle.table.specs.declared.inner.Slot.{Slot}
-use Rattle.table.specs.declared.inner.Spot.{Spot}
 use Rattle.table.proofs.Focus.{gone-not}
 use Rattle.table.proofs.LevelCalls.{placed-here, placed-before, placed-missing}
 
@@ -79,34 +78,34 @@ module _ (ls bs p : List ℕ) (h : 1 < length p) (r : Placed) (e : r ≡ placed 
   unfolding spot_in
   below s d = sym (rw (lt-leb (length p) 1 h, d))
 
-  pub spot-inside : (a b : ℕ) → r ≡ Placed.Here a b → a < length ls
+  pub spot-inside : (a b : ℕ) → r ≡ Placed.Here (record { level = a; binding = b }) → a < length ls
   spot-inside a b d = inside-all ls (scope_of p) a (omega (arith, length-take-le (length p - 1) p (omega arith))) (placed-here ls (seek_in (scope_of p) ls 0 0 0) a b (sym e ∙ d)).0
 
-  pub spot-from : (a b : ℕ) → r ≡ Placed.Here a b → b ≡ counts (take a ls)
+  pub spot-from : (a b : ℕ) → r ≡ Placed.Here (record { level = a; binding = b }) → b ≡ counts (take a ls)
   spot-from a b d = (placed-here ls (seek_in (scope_of p) ls 0 0 0) a b (sym e ∙ d)).1
 
-  pub spot-fits : BindingsHeld ls bs → (a b : ℕ) → r ≡ Placed.Here a b → (b + count_of (get_or ls a 0) ≤ length bs) × Rising bs b (count_of (get_or ls a 0))
+  pub spot-fits : BindingsHeld ls bs → (a b : ℕ) → r ≡ Placed.Here (record { level = a; binding = b }) → (b + count_of (get_or ls a 0) ≤ length bs) × Rising bs b (count_of (get_or ls a 0))
   spot-fits f a b d =
       subst (λ (x : ℕ). (x + count_of (get_or ls a 0) ≤ length bs) × Rising bs x (count_of (get_or ls a 0))) (sym (spot-from a b d))
       (f.held a, f.rise (scope_of p) a (omega (arith, length-take-le (length p - 1) p (omega arith))) (placed-here ls (seek_in (scope_of p) ls 0 0 0) a b (sym e ∙ d)).0)
 
-  pub spot-slot : (a b : ℕ) → r ≡ Placed.Here a b → (q : Slot) → q ≡ slot_in (last_of p) (map binding_of (take (count_of (get_or ls a 0)) (drop b bs))) b → slot_spot a q ≡ spot_in ls bs p
+  pub spot-slot : (a b : ℕ) → r ≡ Placed.Here (record { level = a; binding = b }) → (q : Result ℕ ℕ) → q ≡ slot_in (last_of p) (map binding_of (take (count_of (get_or ls a 0)) (drop b bs))) b → Ok (slot_spot a q) ≡ spot_in ls bs p
   spot-slot a b d q f =
       let x = placed-here ls (seek_in (scope_of p) ls 0 0 0) a b (sym e ∙ d) in
-      ap (slot_spot a) (f ∙ same x.1) ∙ below (here a) x.0
+      ap (λ (r : Result ℕ ℕ). Ok (slot_spot a r)) (f ∙ same x.1) ∙ below (here a) x.0
     where
       same : b ≡ counts (take a ls) → slot_in (last_of p) (map binding_of (take (count_of (get_or ls a 0)) (drop b bs))) b ≡ slot_in (last_of p) (bindings_at ls bs a) (counts (take a ls))
       same x = unfold bindings_at in ap (λ (n : ℕ). slot_in (last_of p) (map binding_of (take (count_of (get_or ls a 0)) (drop n bs))) n) x
 
-  pub spot-before : (k : ℕ) → r ≡ Placed.Before k → Spot.Refused (AmlError.LevelDoesNotExist (length p - 1 - 1)) ≡ spot_in ls bs p
-  spot-before k d = ap (λ (n : ℕ). Spot.Refused (AmlError.LevelDoesNotExist n)) (two (length p)) ∙ below (before k) (placed-before ls (seek_in (scope_of p) ls 0 0 0) k (sym e ∙ d))
+  pub spot-before : (k : ℕ) → r ≡ Placed.Before k → Err (AmlError.LevelDoesNotExist (length p - 1 - 1)) ≡ spot_in ls bs p
+  spot-before k d = ap (λ (n : ℕ). Err (AmlError.LevelDoesNotExist n)) (two (length p)) ∙ below (before k) (placed-before ls (seek_in (scope_of p) ls 0 0 0) k (sym e ∙ d))
     where
       two : (n : ℕ) → n - 1 - 1 ≡ n - 2
       two n = omega arith
 
-  pub spot-missing : (n : ℕ) → r ≡ Placed.Missing n → Spot.Refused (AmlError.LevelDoesNotExist n) ≡ spot_in ls bs p
+  pub spot-missing : (n : ℕ) → r ≡ Placed.Missing n → Err (AmlError.LevelDoesNotExist n) ≡ spot_in ls bs p
   spot-missing n d = below (missing n) (placed-missing ls (seek_in (scope_of p) ls 0 0 0) n (sym e ∙ d))
 
-pub spot-root : (ls bs p : List ℕ) → length p ≤ 1 → Spot.Refused AmlError.RootNotAllowed ≡ spot_in ls bs p
+pub spot-root : (ls bs p : List ℕ) → length p ≤ 1 → Err AmlError.RootNotAllowed ≡ spot_in ls bs p
 unfolding spot_in
 spot-root ls bs p h = sym (rw (le-leb (length p) 1 h))

@@ -1,38 +1,23 @@
 -- What a turn of each loop of the test of memory does, over the list that is left.
 use mathlib.Core.Path.{◌≡◌, refl, ap, sym, ◌∙◌}
 use mathlib.Core.Bool.{Bool, true, false, ◌&&◌, and-false, and-true}
-use mathlib.Core.List.{List, [], ◌∷◌, ◌++◌, map}
+use mathlib.Core.List.{List, [], ◌∷◌, map}
 use Prim.Native.Nat.{ℕ, suc, ◌+◌, ◌-◌, ◌*◌, ◌/◌, ◌%◌, ◌^◌, ◌<◌, ◌≤◌}
 use native.Mathlib.Omega.{arith}
 use native.Mathlib.Numerals.{add-one}
 use lib.Bits.{bit_or, or_add_and, and_le_l, and_le_r}
 use lib.Dec.{leb, ltb, eqb}
-use lib.ListN.{length, take, drop, get_or, set, replicate, length-drop, drop_of_length-le}
-use lib.Seq.{drop-cons, slice, slice-cons, slice_empty, drop-drop, take-suc-set, take_all}
+use lib.ListN.{length, take, drop, get_or, drop_of_length-le}
+use lib.Seq.{drop-cons, slice, slice-cons, slice_empty, drop-drop}
 use borrow.Author.Tests.{le-leb, lt-leb, lt-ltb, le-ltb, eq-eqb, ne_eqb, leb-true, ltb-true, ltb-false, eqb-true, eqb-false}
 use Rattle.pkg_length.proofs.Answers.{halves}
 use Rattle.name_object.specs.Memory.{all_zero}
-use Rattle.table.proofs.Facts.{take-slice}
 use Rattle.table.specs.Limits.{Limits}
 use Rattle.table.specs.Tree.{Binding}
 use Rattle.table.specs.Layout.{rank_of, type_of, count_of, seg_of, binding_of}
 use Rattle.table.specs.Valid.{segment_ok, rising, name_ok, level_ok}
 use Rattle.table.specs.Inside.{word_ok, binds_ok, record_ok, noted, scan, objects_ok, below, parts_ok, lowest}
 use Rattle.table.proofs.Shape.{level-tests}
-
--- zeros written over a list
-pub clear-turn : (i : ℕ) (xs : List ℕ) → i < length xs → take i xs ≡ replicate i 0 → take (i + 1) (set xs i 0) ≡ replicate (i + 1) 0
-clear-turn i xs h e = rw (add-one i, take-suc-set xs i 0 h, e) (one_more i)
-  where
-    one_more : (n : ℕ) → ◌≡◌ {A = List ℕ} (replicate n 0 ++ (0 ∷ [])) (replicate (suc n) 0)
-    one_more Prim.Native.Nat.zero = refl
-    one_more (suc n) = ap (λ (l : List ℕ). 0 ∷ l) (one_more n)
-
-pub clear-done : (i n : ℕ) (xs : List ℕ) → length xs ≡ n → length xs ≤ i → i ≤ length xs → take i xs ≡ replicate i 0 → xs ≡ replicate n 0
-clear-done i n xs l h k e = sym (take_all i xs h) ∙ e ∙ ap (λ (m : ℕ). replicate {A = ℕ} m 0) (same i (length xs) n l h k)
-  where
-    same : (i m n : ℕ) → m ≡ n → m ≤ i → i ≤ m → i ≡ n
-    same i m n a b c = omega arith
 
 -- bindings
 -- The last binding's word passed, all bits of its handle set, stands for the least segment that may come; and since they rise, the segments passed
@@ -123,14 +108,13 @@ pub spare-end : (xs : List ℕ) (i seen : ℕ) → length xs ≤ i → (eqb seen
 unfolding all_zero
 spare-end xs i seen h = rw (drop_of_length-le xs h) (and-true (eqb seen 0))
 
-pub binds-short : (live : ℕ → Bool) (n f : ℕ) (l : List ℕ) → length l - f < n → binds_ok live n (drop f l) ≡ false
+pub binds-short : (live : ℕ → Bool) (n : ℕ) (l : List ℕ) → length l < n → binds_ok live n l ≡ false
 unfolding binds_ok
-binds-short live n f l h = rw (lt-leb n (length (drop f l)) (omega (arith, length-drop f l)))
+binds-short live n l h = rw (lt-leb n (length l) h)
 
-pub binds-rest : (live : ℕ → Bool) (n f : ℕ) (l : List ℕ) → f ≤ length l → n ≤ length l - f → binds_ok live n (drop f l) ≡ rest_ok live (10 * 37 ^ 3 * 2 ^ 32 - 1) (slice f (f + n) l)
+pub binds-rest : (live : ℕ → Bool) (n : ℕ) (l : List ℕ) → n ≤ length l → binds_ok live n l ≡ rest_ok live (10 * 37 ^ 3 * 2 ^ 32 - 1) (take n l)
 unfolding binds_ok
-binds-rest live n f l h k =
-    rw (le-leb n (length (drop f l)) (omega (arith, length-drop f l))) (ap (λ (x : List ℕ). rising live 0 (map binding_of x)) (take-slice f n l h) ∙ sym (rest-start live (slice f (f + n) l)))
+binds-rest live n l h = rw (le-leb n (length l) h) (sym (rest-start live (take n l)))
 
 -- a record, test by test
 module _ (limit : ℕ) (live : ℕ → Bool) (p : ℕ) (low : List ℕ) (w : ℕ) (bs : List ℕ) where
@@ -180,36 +164,36 @@ module _ (limit : ℕ) (live : ℕ → Bool) (p : ℕ) (low : List ℕ) (w : ℕ
           go false y a b = rw (lt-leb (rank_of w) limit (omega (arith, eqb-false (rank_of w) limit a)))
 
 -- a record that passes
-pub record Passed (limit w f : ℕ) (l : List ℕ) : Type 0 where
+pub record Passed (limit w : ℕ) (l : List ℕ) : Type 0 where
   pub rank : rank_of w ≤ limit
-  pub room : count_of w ≤ length l - f
+  pub room : count_of w ≤ length l
 
-pub passed : (limit : ℕ) (live : ℕ → Bool) (p : ℕ) (low : List ℕ) (w f : ℕ) (l : List ℕ) → record_ok limit live p low w (drop f l) ≡ true → Passed limit w f l
+pub passed : (limit : ℕ) (live : ℕ → Bool) (p : ℕ) (low : List ℕ) (w : ℕ) (l : List ℕ) → record_ok limit live p low w l ≡ true → Passed limit w l
 unfolding record_ok binds_ok
-passed limit live p low w f l h =
-    let b = halves (leb (rank_of w) (p + 1) && word_ok limit (get_or low (rank_of w) 0) w) (binds_ok live (count_of w) (drop f l)) h in
+passed limit live p low w l h =
+    let b = halves (leb (rank_of w) (p + 1) && word_ok limit (get_or low (rank_of w) 0) w) (binds_ok live (count_of w) l) h in
     let a = halves (leb (rank_of w) (p + 1)) (word_ok limit (get_or low (rank_of w) 0) w) b.0 in
-    let c = halves (leb (count_of w) (length (drop f l))) _ b.1 in
+    let c = halves (leb (count_of w) (length l)) _ b.1 in
     record {
       rank = (level-tests limit (rank_of w) (get_or low (rank_of w) 0) (seg_of w) (type_of w) (count_of w) a.1).shallow;
-      room = omega (arith, leb-true (count_of w) (length (drop f l)) c.0, length-drop f l);
+      room = leb-true (count_of w) (length l) c.0;
     }
 
 -- the pass over the records
-module _ (limit : ℕ) (live : ℕ → Bool) (p : ℕ) (low ws : List ℕ) (k : ℕ) (bs : List ℕ) (m : ℕ) (h : k < length ws) where
-  pub turn-zero : get_or ws k 0 ≡ 0 → scan limit live p low (drop k ws) (drop m bs) ≡ (all_zero (drop (k + 1) ws) && all_zero (drop m bs))
+module _ (limit : ℕ) (live : ℕ → Bool) (p : ℕ) (low ws : List ℕ) (k : ℕ) (bs : List ℕ) (h : k < length ws) where
+  pub turn-zero : get_or ws k 0 ≡ 0 → scan limit live p low (drop k ws) bs ≡ (all_zero (drop (k + 1) ws) && all_zero bs)
   unfolding scan
   turn-zero z = rw (add-one k, drop-cons ws k 0 h, eq-eqb (get_or ws k 0) 0 z)
 
   module _ (n : get_or ws k 0 ≡ 0 → ⊥) where
-    pub turn-unfit : record_ok limit live p low (get_or ws k 0) (drop m bs) ≡ false → scan limit live p low (drop k ws) (drop m bs) ≡ false
+    pub turn-unfit : record_ok limit live p low (get_or ws k 0) bs ≡ false → scan limit live p low (drop k ws) bs ≡ false
     unfolding scan
     turn-unfit e = rw (drop-cons ws k 0 h, ne_eqb (get_or ws k 0) 0 n, e)
 
-    pub turn-pass : record_ok limit live p low (get_or ws k 0) (drop m bs) ≡ true
-        → scan limit live p low (drop k ws) (drop m bs) ≡ scan limit live (rank_of (get_or ws k 0)) (noted low (get_or ws k 0)) (drop (k + 1) ws) (drop (m + count_of (get_or ws k 0)) bs)
+    pub turn-pass : record_ok limit live p low (get_or ws k 0) bs ≡ true
+        → scan limit live p low (drop k ws) bs ≡ scan limit live (rank_of (get_or ws k 0)) (noted low (get_or ws k 0)) (drop (k + 1) ws) (drop (count_of (get_or ws k 0)) bs)
     unfolding scan
-    turn-pass e = rw (add-one k, drop-cons ws k 0 h, ne_eqb (get_or ws k 0) 0 n, e, drop-drop (count_of (get_or ws k 0)) m bs)
+    turn-pass e = rw (add-one k, drop-cons ws k 0 h, ne_eqb (get_or ws k 0) 0 n, e)
 
 pub turn_end : (limit : ℕ) (live : ℕ → Bool) (p : ℕ) (low ws : List ℕ) (k : ℕ) (bs : List ℕ) → length ws ≤ k → scan limit live p low (drop k ws) bs ≡ all_zero bs
 unfolding scan
@@ -228,14 +212,14 @@ module _ (m : Limits) (ls bs os : List ℕ) (h : 0 < length os) where
   unfolding parts_ok
   parts-many x = rw (objects-at, lt-leb (get_or os 0 0) m.objects x)
 
+  pub parts-bare : get_or ls 0 0 ≡ 0 → parts_ok m ls bs os ≡ false
+  unfolding parts_ok
+  parts-bare z = rw (eq-eqb (get_or ls 0 0) 0 z, and-false (objects_ok m.objects os))
+
   module _ (x : get_or os 0 0 ≤ m.objects) where
     pub parts_loose : all_zero (drop (get_or os 0 0 + 1) os) ≡ false → parts_ok m ls bs os ≡ false
     unfolding parts_ok
     parts_loose y = rw (objects-at, le-leb (get_or os 0 0) m.objects x, y)
-
-    pub parts-bare : all_zero (drop (get_or os 0 0 + 1) os) ≡ true → get_or ls 0 0 ≡ 0 → parts_ok m ls bs os ≡ false
-    unfolding parts_ok
-    parts-bare y z = rw (objects-at, le-leb (get_or os 0 0) m.objects x, y, eq-eqb (get_or ls 0 0) 0 z)
 
     pub parts-scan : all_zero (drop (get_or os 0 0 + 1) os) ≡ true → (get_or ls 0 0 ≡ 0 → ⊥)
         → parts_ok m ls bs os ≡ scan m.components (below (get_or os 0 0)) 0 (lowest m.components) ls bs

@@ -1,14 +1,12 @@
 -- What the functions inside promise one another. No public contract rests on these.
-use Rattle.std.specs.Prelude.{◌≡◌, ℕ, zero, suc, ◌+◌, ◌-◌, ◌/◌, ◌^◌, ◌<◌, ◌≤◌, Bool, false, cond, not, ◌&&◌, List, [], ◌∷◌, ◌++◌, map, leb, ltb, eqb, length, take, drop, get_or, set, replicate}
+use Rattle.std.specs.Prelude.{◌≡◌, ℕ, zero, suc, ◌+◌, ◌-◌, ◌/◌, ◌^◌, ◌<◌, ◌≤◌, Bool, false, cond, not, ◌&&◌, Option, None, Some, Result, Ok, Err, List, [], ◌∷◌, ◌++◌, map, leb, ltb, eqb, length, take, drop, get_or, set, replicate}
 use Rattle.pkg_length.specs.Refusal.{Answer, gives, refuses}
 use Rattle.name_object.specs.Memory.{all_zero}
 use Rattle.table.specs.Limits.{Limits}
 use Rattle.table.specs.Layout.{rank_of, type_of, count_of, seg_of, binding_of}
 use Rattle.table.specs.Valid.{rising, level_ok}
 use Rattle.table.specs.declared.inner.Sought.{Sought as Placed}
-use Rattle.table.specs.declared.inner.Child.{Child}
-use Rattle.table.specs.declared.inner.Run.{Run}
-use Rattle.table.specs.declared.inner.Slot.{Slot}
+use Rattle.table.specs.declared.inner.Place.{Place}
 use Rattle.table.specs.declared.inner.Spot.{Spot}
 use Rattle.table.specs.declared.inner.Nearest.{Nearest}
 use Rattle.pkg_length.specs.declared.AmlError.{AmlError}
@@ -82,13 +80,13 @@ seek_in (s ∷ p) (w ∷ ws) r at k =
     (seek_in (s ∷ p) ws r at (suc k)))
 
 -- a level's child of rank r and segment s, past deeper records and smaller segments; the words stand from index k on, and m bindings before them
-unfoldable pub child_in : ℕ → ℕ → List ℕ → ℕ → ℕ → Child
-child_in r s [] k m = Child.Gone k
+unfoldable pub child_in : ℕ → ℕ → List ℕ → ℕ → ℕ → Result Place ℕ
+child_in r s [] k m = Err k
 child_in r s (w ∷ ws) k m =
     cond (ltb r (rank_of w)) (child_in r s ws (suc k) (m + count_of w))
-    (cond (ltb (rank_of w) r) (Child.Gone k)
+    (cond (ltb (rank_of w) r) (Err k)
     (cond (ltb (seg_of w) s) (child_in r s ws (suc k) (m + count_of w))
-    (cond (eqb (seg_of w) s) (Child.At k m) (Child.Gone k))))
+    (cond (eqb (seg_of w) s) (Ok (record { level = k; binding = m })) (Err k))))
 
 -- how many bindings records have
 unfoldable pub counts : List ℕ → ℕ
@@ -119,39 +117,43 @@ closed a e xs = take a xs ++ (drop e xs ++ replicate (e - a) 0)
 
 -- what the pass tells of memory: the record's index with that of its level's first binding
 abbrev pub placed : List ℕ → Sought → Placed
-placed ls (here k) = Placed.Here k (counts (take k ls))
+placed ls (here k) = Placed.Here (record { level = k; binding = counts (take k ls) })
 placed ls (before k) = Placed.Before k
 placed ls (missing n) = Placed.Missing n
 
 abbrev pub placed_gone_at : ℕ → ℕ → ℕ → Placed
 placed_gone_at n j k = cond (eqb (j + 1) n) (Placed.Before k) (Placed.Missing j)
 
-abbrev pub subtree_of : List ℕ → ℕ → Run
-subtree_of ls j = record { end = subtree_end ls j; to = counts (take (subtree_end ls j) ls) }
+abbrev pub subtree_of : List ℕ → ℕ → Place
+subtree_of ls j = record { level = subtree_end ls j; binding = counts (take (subtree_end ls j) ls) }
+
+-- behind a level's record and its bindings
+abbrev pub place_behind : List ℕ → Place → Place
+place_behind ls p = record { level = p.level + 1; binding = p.binding + count_of (get_or ls p.level 0) }
 
 -- Bindings.
 
 -- a segment among a level's bindings, the first of which stands at index i: its handle, or where it would stand
-unfoldable pub slot_in : ℕ → List Binding → ℕ → Slot
-slot_in s [] i = Slot.Free i
-slot_in s (b ∷ bs) i = cond (eqb b.segment s) (Slot.Bound b.handle) (cond (ltb s b.segment) (Slot.Free i) (slot_in s bs (suc i)))
+unfoldable pub slot_in : ℕ → List Binding → ℕ → Result ℕ ℕ
+slot_in s [] i = Err i
+slot_in s (b ∷ bs) i = cond (eqb b.segment s) (Ok b.handle) (cond (ltb s b.segment) (Err i) (slot_in s bs (suc i)))
 
 -- the bindings of the level whose record stands at index k
 unfoldable pub bindings_at : List ℕ → List ℕ → ℕ → List Binding
 bindings_at ls bs k = map binding_of (take (count_of (get_or ls k 0)) (drop (counts (take k ls)) bs))
 
-abbrev pub slot_spot : ℕ → Slot → Spot
-slot_spot k (Slot.Bound h) = Spot.Bound h
-slot_spot k (Slot.Free i) = Spot.Free k i
+abbrev pub slot_spot : ℕ → Result ℕ ℕ → Spot
+slot_spot k (Ok h) = Spot.Bound h
+slot_spot k (Err i) = Spot.Free (record { level = k; binding = i })
 
-abbrev pub spot_from : List ℕ → List ℕ → List ℕ → Sought → Spot
-spot_from ls bs p (here k) = slot_spot k (slot_in (last_of p) (bindings_at ls bs k) (counts (take k ls)))
-spot_from ls bs p (before k) = Spot.Refused (AmlError.LevelDoesNotExist (length p - 2))
-spot_from ls bs p (missing n) = Spot.Refused (AmlError.LevelDoesNotExist n)
+abbrev pub spot_from : List ℕ → List ℕ → List ℕ → Sought → Result Spot AmlError
+spot_from ls bs p (here k) = Ok (slot_spot k (slot_in (last_of p) (bindings_at ls bs k) (counts (take k ls))))
+spot_from ls bs p (before k) = Err (AmlError.LevelDoesNotExist (length p - 2))
+spot_from ls bs p (missing n) = Err (AmlError.LevelDoesNotExist n)
 
 -- where a path's last segment is bound, or would be
-unfoldable pub spot_in : List ℕ → List ℕ → List ℕ → Spot
-spot_in ls bs p = cond (is_root p) (Spot.Refused AmlError.RootNotAllowed) (spot_from ls bs p (seek_in (scope_of p) ls 0 0 0))
+unfoldable pub spot_in : List ℕ → List ℕ → List ℕ → Result Spot AmlError
+spot_in ls bs p = cond (is_root p) (Err AmlError.RootNotAllowed) (spot_from ls bs p (seek_in (scope_of p) ls 0 0 0))
 
 -- the segments of n binding words from index from on rise
 abbrev pub Rising : List ℕ → ℕ → ℕ → Type 0
@@ -187,10 +189,10 @@ deepest ask zero = refuses 0 0
 deepest ask (suc n) = closer (suc n) (ask (suc n)) (deepest ask n)
 
 -- what the words hold under a segment in the scope of a path's first n keys
-abbrev pub spotted : Spot → Answer ℕ
-spotted (Spot.Bound h) = gives h
-spotted (Spot.Free k i) = refuses 16 0
-spotted (Spot.Refused e) = refuses 16 0
+abbrev pub spotted : Result Spot AmlError → Answer ℕ
+spotted (Ok (Spot.Bound h)) = gives h
+spotted (Ok (Spot.Free p)) = refuses 16 0
+spotted (Err e) = refuses 16 0
 
 unfoldable pub value_held : List ℕ → List ℕ → List ℕ → ℕ → ℕ → Answer ℕ
 value_held ls bs p s n = spotted (spot_in ls bs (take n p ++ (s ∷ [])))
@@ -203,14 +205,14 @@ seen (missing n) = refuses 15 1
 unfoldable pub level_held : List ℕ → List ℕ → ℕ → ℕ → Answer (Unit {0})
 level_held ls p s n = seen (seek_in (take n p ++ (s ∷ [])) ls 0 0 0)
 
--- as the code holds it; a depth of 0 is none
-abbrev pub nearest_of : Answer (Deep ℕ) → Nearest
-nearest_of (gives d) = record { depth = d.depth; handle = d.value }
-nearest_of (refuses n p) = record { depth = 0; handle = 0 }
+-- as the code holds it
+abbrev pub nearest_of : Answer (Deep ℕ) → Option Nearest
+nearest_of (gives d) = Some (record { depth = d.depth; handle = d.value })
+nearest_of (refuses n p) = None
 
-abbrev pub depth_of : Answer (Deep (Unit {0})) → ℕ
-depth_of (gives d) = d.depth
-depth_of (refuses n p) = 0
+abbrev pub depth_of : Answer (Deep (Unit {0})) → Option ℕ
+depth_of (gives d) = Some d.depth
+depth_of (refuses n p) = None
 
 -- the first n keys of p lead to the record at index at, whose bindings begin at index from; whatever follows them is looked for behind that record
 pub record Reached (ls p : List ℕ) (n at from : ℕ) : Type 0 where
@@ -218,10 +220,14 @@ pub record Reached (ls p : List ℕ) (n at from : ℕ) : Type 0 where
   pub counted : from ≡ counts (take at ls)
   pub leads : (q : List ℕ) → seek_in (take n p ++ q) ls 0 0 0 ≡ seek_in q (drop (at + 1) ls) n at (at + 1)
 
+-- where the words begin
+abbrev pub start : Place
+start = record { level = 0; binding = 0 }
+
 -- the first n keys of p lead to levels, each with its place, and more of them to none
-pub record Trailed (ls p ats froms : List ℕ) (n : ℕ) : Type 0 where
+pub record Trailed (ls p : List ℕ) (places : List Place) (n : ℕ) : Type 0 where
   pub short : n ≤ length p
-  pub there : (i : ℕ) → i < n → Reached ls p (i + 1) (get_or ats i 0) (get_or froms i 0)
+  pub there : (i : ℕ) → i < n → Reached ls p (i + 1) (get_or places i start).level (get_or places i start).binding
   pub gone : (i : ℕ) → n < i → i ≤ length p → (q : List ℕ) (j : ℕ) → seek_in (take i p ++ q) ls 0 0 0 ≡ here j → ⊥
 
 -- Paths.

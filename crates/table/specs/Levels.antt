@@ -32,6 +32,10 @@ fitting room xs = cond (leb (length xs) room) (gives xs) (refuses 25 (length xs)
 unfoldable pub char_of_number : ℕ → ℕ
 char_of_number n = cond (ltb n 10) (n + 0x30) (cond (ltb n 36) (n + 0x37) 0x5F)
 
+-- the four characters of a number
+abbrev pub characters_of_segment : ℕ → List ℕ
+characters_of_segment s = char_of_number (s / 37 / 37 / 37) ∷ char_of_number (s / 37 / 37 % 37) ∷ char_of_number (s / 37 % 37) ∷ char_of_number (s % 37) ∷ []
+
 -- a segment's four bytes, from its number; the root, whose number is 0, has four zero bytes
 unfoldable pub bytes_of_segment : ℕ → List ℕ
 bytes_of_segment s =

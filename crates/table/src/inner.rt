@@ -1,4 +1,5 @@
 // For the layer above alone, over the parts of a table: what each needs is tested there.
+// The parts are cut from the lent words at each call, so their lengths are facts of the calls: a type that holds them would be made anew at every cut.
 ghost use Rattle.std.specs.Prelude.{◌≡◌, true, false, cond, ◌&&◌, ◌++◌, map, ℕ, ◌+◌, ◌-◌, ◌*◌, ◌^◌, ◌<◌, ◌≤◌, eqb, length, take, drop, get_or, replicate};
 ghost use Rattle.name_object.specs.Component.{component_limit};
 ghost use Rattle.name_object.specs.Memory.{all_zero};
@@ -6,11 +7,11 @@ ghost use Rattle.table.specs.Limits.{limits};
 ghost use Rattle.table.specs.Layout.{binding_of};
 ghost use Rattle.table.specs.Valid.{segment_ok, name_ok};
 ghost use Rattle.table.specs.Memory.{is_well_formed, size};
-ghost use Rattle.table.specs.Inside.{word_ok, binds_ok, record_ok, scan, lowest, below, parts_ok, seek_in, placed, placed_gone_at, push, counts, subtree_of, closed, slot_in, spot_in, bind_words, Rising, BindingsHeld, child_in, Trailed, deepest, value_held, level_held, nearest_of, depth_of, Keyed};
+ghost use Rattle.table.specs.Inside.{word_ok, binds_ok, record_ok, scan, lowest, below, parts_ok, seek_in, placed, placed_gone_at, push, counts, place_behind, subtree_of, closed, slot_in, spot_in, bind_words, Rising, BindingsHeld, child_in, Trailed, deepest, value_held, level_held, nearest_of, depth_of, Keyed};
 
 use crate::layout::{
-    BINDINGS, COMPONENTS, COUNT, COUNT_AT, COUNTS, FIRST_SEGMENT, LEVELS, OBJECTS, RANK, SEGMENT,
-    SEGMENTS_END, TYPE,
+    BindingWord, COMPONENTS, COUNT, COUNT_AT, FIRST_SEGMENT, LEVELS, LevelWord, OBJECTS, RANK,
+    SEGMENT, SEGMENTS_END,
 };
 use pkg_length::AmlError;
 
@@ -21,140 +22,104 @@ const BEFORE: u64 = FIRST_SEGMENT * SEGMENT - 1;
 
 const PAST: u64 = SEGMENTS_END * SEGMENT;
 
-// Zero everywhere.
-pub fn clear(xs: &mut [u64])
-    ensures { xs.new ≡ replicate (length xs.old) 0 }
-{
-    let mut i = 0;
-    while i < xs.len() {
-        xs[i] = 0;
-        i += 1;
-    }
-}
-
 // A number is a segment.
+#[tactic(auto, using(std::proofs::lemmas::Bool::Decides::nat_tests), unfolding(crate::specs::Valid::segment_ok))]
 fn seg_ok(s: u64) -> bool
     ensures { result ≡ segment_ok s }
 {
-    if s < FIRST_SEGMENT {
-        return false;
-    }
-    s < SEGMENTS_END
+    FIRST_SEGMENT <= s && s < SEGMENTS_END
 }
 
 // The root has no segment and is a Scope; below it, a segment and one of the six types.
-fn name_fits(rank: u64, seg: u64, typ: u64) -> bool
+fn name_fits(rank: usize, seg: u64, typ: u64) -> bool
     ensures { result ≡ name_ok rank seg typ }
 {
     if rank == 1 {
-        if seg == 0 { typ == 0 } else { false }
+        seg == 0 && typ == 0
     } else {
-        if seg_ok(seg) { typ < 6 } else { false }
+        seg_ok(seg) && typ < 6
     }
 }
 
-// The n bindings from index from on are there, rise, and have handles below made. A word is above the one before it with all bits of the handle set,
+// The first n bindings are there, rise, and have handles below made. A word is above the one before it with all bits of the handle set,
 // so its segment is greater; and as they rise, the last segment alone is tested from above.
-fn binds_fit(bindings: &[u64], from: usize, n: usize, made: u32) -> bool
-    requires { from ≤ length bindings.now }
-    ensures { result ≡ binds_ok (below made) n (drop from bindings.now) }
+fn binds_fit(bindings: &[u64], n: usize, made: u32) -> bool
+    ensures { result ≡ binds_ok (below made) n bindings.now }
 {
-    if bindings.len() - from < n {
+    if bindings.len() < n {
         return false;
     }
-    let end = from + n;
-    let mut last: u64 = BEFORE;
-    let mut i = from;
-    while i < end {
-        let w = bindings[i];
-        if w <= last {
+    let own = &bindings[..n];
+    let mut last = BEFORE;
+    for word in own {
+        let binding = BindingWord(*word);
+        if *word <= last || made <= binding.handle() {
             return false;
         }
-        if made <= (w % SEGMENT) as u32 {
-            return false;
-        }
-        last = w / SEGMENT * SEGMENT + (SEGMENT - 1);
-        i += 1;
+        last = binding.segment() * SEGMENT + (SEGMENT - 1);
     }
     last < PAST
 }
 
-// Every word from an index on is zero. All are looked at, so that many are taken at a time.
-fn rest_zero(xs: &[u64], from: usize) -> bool
-    ensures { result ≡ all_zero (drop from xs.now) }
+// Every word is zero. All are looked at, so that many are taken at a time.
+fn all_spare(words: &[u64]) -> bool
+    ensures { result ≡ all_zero words.now }
 {
-    let mut seen: u64 = 0;
-    let mut i = from;
-    while i < xs.len() {
-        seen = seen | xs[i];
-        i += 1;
+    let mut seen = 0;
+    for word in words {
+        seen |= *word;
     }
     seen == 0
 }
 
 // The deepest level has no bindings, and none is deeper.
-fn deepest_fits(rank: u64, n: u64) -> bool
+fn deepest_fits(rank: usize, n: usize) -> bool
     ensures { result ≡ eqb rank component_limit && eqb n 0 }
 {
-    if rank == COMPONENTS as u64 {
-        return n == 0;
-    }
-    false
+    rank == COMPONENTS && n == 0
 }
 
-// A record after one of rank p, with its bindings from index from on; low has the least segment that may come at each rank.
-fn record_fits(w: u64, p: u64, low: &[u64; RANKS], bindings: &[u64], from: usize, made: u32) -> bool
-    requires { (p ≤ component_limit) × (from ≤ length bindings.now) }
-    ensures { result ≡ record_ok component_limit (below made) p low.now w (drop from bindings.now) }
+// A record after one of rank p, its bindings being the first of those left; low has the least segment that may come at each rank.
+fn record_fits(word: LevelWord, p: usize, low: &[u64; RANKS], bindings: &[u64], made: u32) -> bool
+    requires { p ≤ component_limit }
+    ensures { result ≡ record_ok component_limit (below made) p low.now word.0 bindings.now }
 {
-    let rank = w / RANK;
-    if p + 1 < rank {
+    let rank = word.rank();
+    if p + 1 < rank || rank == 0 {
         return false;
     }
-    if rank == 0 {
+    let seg = word.segment();
+    if seg < low[rank] || !name_fits(rank, seg, word.typ()) {
         return false;
     }
-    let seg = w % SEGMENT;
-    if seg < low[rank as usize] {
-        return false;
+    if rank < COMPONENTS {
+        binds_fit(bindings, word.count(), made)
+    } else {
+        deepest_fits(rank, word.count())
     }
-    if name_fits(rank, seg, w / TYPE % 8) {
-        let n = w / COUNT % COUNTS;
-        if rank < COMPONENTS as u64 {
-            return binds_fit(bindings, from, n as usize, made);
-        }
-        return deepest_fits(rank, n);
-    }
-    false
 }
 
 // The records and their bindings, in one pass.
 fn scan_levels(levels: &[u64], bindings: &[u64], made: u32) -> bool
     ensures { result ≡ scan component_limit (below made) 0 (lowest component_limit) levels.now bindings.now }
 {
-    let mut low = [0u64; RANKS];
-    let mut p: u64 = 0;
-    let mut m = 0;
-    let mut k = 0;
-    while k < levels.len() {
-        let w = levels[k];
-        if w == 0 {
-            if rest_zero(levels, k + 1) {
-                return rest_zero(bindings, m);
-            }
+    let mut low = [0; RANKS];
+    let mut p = 0;
+    let mut left = bindings;
+    for (k, w) in levels.iter().enumerate() {
+        if *w == 0 {
+            return all_spare(&levels[k + 1..]) && all_spare(left);
+        }
+        let word = LevelWord(*w);
+        if !record_fits(word, p, &low, left, made) {
             return false;
         }
-        if record_fits(w, p, &low, bindings, m, made) {
-            p = w / RANK;
-            low[p as usize] = w % SEGMENT + 1;
-            low[p as usize + 1] = 0;
-            m += (w / COUNT % COUNTS) as usize;
-        } else {
-            return false;
-        }
-        k += 1;
+        p = word.rank();
+        low[p] = word.segment() + 1;
+        low[p + 1] = 0;
+        left = &left[word.count()..];
     }
-    rest_zero(bindings, m)
+    all_spare(left)
 }
 
 // The table's three parts.
@@ -163,18 +128,10 @@ pub fn parts_fit(levels: &[u64], bindings: &[u64], objects: &[u64]) -> bool
     ensures { result ≡ parts_ok limits levels.now bindings.now objects.now }
 {
     let made = objects[0];
-    if (OBJECTS as u64) < made {
+    if made > OBJECTS as u64 || levels[0] == 0 {
         return false;
     }
-    if rest_zero(objects, made as usize + 1) {
-        if levels[0] == 0 {
-            false
-        } else {
-            scan_levels(levels, bindings, made as u32)
-        }
-    } else {
-        false
-    }
+    all_spare(&objects[made as usize + 1..]) && scan_levels(levels, bindings, made as u32)
 }
 
 // Puts w at index at, and moves what stood from there on up by one, into the first spare word; where there is none, the last word is lost.
@@ -182,16 +139,14 @@ pub fn make_room(xs: &mut [u64], at: usize, w: u64)
     requires { at ≤ length xs.old }
     ensures { xs.new ≡ take at xs.old ++ push w (drop at xs.old) }
 {
-    let mut i = at;
-    let mut c = w;
-    while i < xs.len() {
-        let x = xs[i];
-        xs[i] = c;
-        if x == 0 {
+    let mut carried = w;
+    for x in xs[at..].iter_mut() {
+        let old = *x;
+        *x = carried;
+        if old == 0 {
             return;
         }
-        c = x;
-        i += 1;
+        carried = old;
     }
 }
 
@@ -200,24 +155,40 @@ pub fn close_gap(xs: &mut [u64], at: usize, end: usize)
     requires { (at ≤ end) × (end ≤ length xs.old) }
     ensures { xs.new ≡ closed at end xs.old }
 {
-    let mut i = at;
-    let mut j = end;
-    while j < xs.len() {
-        xs[i] = xs[j];
-        i += 1;
-        j += 1;
-    }
-    while i < xs.len() {
-        xs[i] = 0;
-        i += 1;
+    let kept = xs.len() - (end - at);
+    xs.copy_within(end.., at);
+    xs[kept..].fill(0);
+}
+
+// An index among the levels' words, and one among the bindings' words.
+#[derive(Clone, Copy, Debug, PartialEq, Eq)]
+pub struct Place {
+    pub level: usize,
+    pub binding: usize,
+}
+
+// Where the words begin.
+const START: Place = Place {
+    level: 0,
+    binding: 0,
+};
+
+// Behind a level's record and its bindings.
+fn behind(levels: &[u64], place: Place) -> Place
+    requires { (place.level < length levels.now) × (length levels.now ≤ limits.levels) × (place.binding ≤ 1023 * place.level) }
+    ensures { result ≡ place_behind levels.now place }
+{
+    Place {
+        level: place.level + 1,
+        binding: place.binding + LevelWord(levels[place.level]).count(),
     }
 }
 
-// Where a path leads.
-#[derive(Clone, Copy)]
+// Where a path leads: three outcomes, since what is missing is refused by a lookup, and the second is where an edit writes.
+#[derive(Clone, Copy, Debug, PartialEq, Eq)]
 pub enum Sought {
-    // the index of the level's record, and of its first binding
-    Here(usize, usize),
+    // the level's record, and its first binding
+    Here(Place),
     // the level around is there, and the record would stand at this index
     Before(usize),
     // segments up to and including the missing one, which is not the last
@@ -236,43 +207,32 @@ fn gone_at(n: usize, j: usize, k: usize) -> Sought
     }
 }
 
-// A level's child.
-#[derive(Clone, Copy)]
-pub enum Child {
-    // the index of its record, and of its first binding
-    At(usize, usize),
-    // it is not there; the index where its record would stand
-    Gone(usize),
-}
-
-// The child of that rank and segment, among the records from index k on, m bindings being before them: past deeper records and smaller segments. A
-// word's highest field is its rank, so one comparison passes over a deeper record.
-fn find_child(levels: &[u64], k: usize, m: usize, rank: u64, seg: u64) -> Child
-    requires { (length levels.now ≤ limits.levels) × (m ≤ 1023 * k) × (rank ≤ component_limit + 1) }
-    ensures { result ≡ child_in rank seg (drop k levels.now) k m }
+// A level's child of that rank and segment, among the records from a place on: its place, or the index where its record would stand. Deeper records
+// and smaller segments are passed over. A word's highest field is its rank, so one comparison passes over a deeper record.
+fn find_child(levels: &[u64], from: Place, rank: usize, seg: u64) -> Result<Place, usize>
+    requires { (length levels.now ≤ limits.levels) × (from.level ≤ length levels.now) × (from.binding ≤ 1023 * from.level) × (rank ≤ component_limit + 1) }
+    ensures { result ≡ child_in rank seg (drop from.level levels.now) from.level from.binding }
 {
-    let low = rank * RANK;
+    let low = rank as u64 * RANK;
     let past = low + RANK;
-    let mut i = k;
-    let mut n = m;
-    while i < levels.len() {
-        let w = levels[i];
-        if w < past {
-            if w < low {
-                return Child::Gone(i);
+    let mut binding = from.binding;
+    for level in from.level..levels.len() {
+        let word = levels[level];
+        if word < past {
+            if word < low {
+                return Err(level);
             }
-            let here = w % SEGMENT;
+            let here = LevelWord(word).segment();
             if seg <= here {
                 if seg == here {
-                    return Child::At(i, n);
+                    return Ok(Place { level, binding });
                 }
-                return Child::Gone(i);
+                return Err(level);
             }
         }
-        n += (w / COUNT % COUNTS) as usize;
-        i += 1;
+        binding += LevelWord(word).count();
     }
-    Child::Gone(i)
+    Err(levels.len())
 }
 
 // Where the path's level stands, or would stand.
@@ -280,223 +240,162 @@ pub fn seek(levels: &[u64], path: &[u64]) -> Sought
     requires { (length levels.now ≤ limits.levels) × (length path.now ≤ component_limit) }
     ensures { result ≡ placed levels.now (seek_in path.now levels.now 0 0 0) }
 {
-    let mut at = 0;
-    let mut from = 0;
-    let mut m = 0;
-    let mut k = 0;
-    let mut j = 0;
-    while j < path.len() {
-        let found = find_child(levels, k, m, j as u64 + 1, path[j]);
-        match found {
-            Child::Gone(i) => {
-                return gone_at(path.len(), j, i);
+    let mut here = START;
+    let mut next = START;
+    for (j, seg) in path.iter().enumerate() {
+        match find_child(levels, next, j + 1, *seg) {
+            Ok(child) => {
+                here = child;
+                next = behind(levels, child);
             }
-            Child::At(i, n) => {
-                at = i;
-                from = n;
-                m = n + (levels[i] / COUNT % COUNTS) as usize;
-                k = i + 1;
-                j += 1;
-            }
+            Err(k) => return gone_at(path.len(), j, k),
         }
     }
-    Sought::Here(at, from)
+    Sought::Here(here)
 }
 
-// The index past a level's records and those below it, and past their bindings.
-#[derive(Clone, Copy)]
-pub struct Run {
-    pub end: usize,
-    pub to: usize,
-}
-
-// The level at index j, whose first binding stands at index from.
-pub fn subtree(levels: &[u64], j: usize, from: usize) -> Run
-    requires { (j < length levels.now) × (length levels.now ≤ limits.levels) × (from ≡ counts (take j levels.now)) }
-    ensures { result ≡ subtree_of levels.now j }
+// Behind the records of a level and of those below it, and behind their bindings.
+pub fn subtree_end(levels: &[u64], place: Place) -> Place
+    requires { (place.level < length levels.now) × (length levels.now ≤ limits.levels) × (place.binding ≡ counts (take place.level levels.now)) }
+    ensures { result ≡ subtree_of levels.now place.level }
 {
-    let rank = levels[j] / RANK;
-    let mut e = j + 1;
-    let mut to = from + (levels[j] / COUNT % COUNTS) as usize;
-    while e < levels.len() {
-        if levels[e] / RANK <= rank {
-            return Run { end: e, to };
+    let rank = LevelWord(levels[place.level]).rank();
+    let mut binding = place.binding + LevelWord(levels[place.level]).count();
+    for level in place.level + 1..levels.len() {
+        let word = LevelWord(levels[level]);
+        if word.rank() <= rank {
+            return Place { level, binding };
         }
-        to += (levels[e] / COUNT % COUNTS) as usize;
-        e += 1;
+        binding += word.count();
     }
-    Run { end: e, to }
+    Place {
+        level: levels.len(),
+        binding,
+    }
 }
 
-// A segment among a level's bindings.
-#[derive(Clone, Copy)]
-pub enum Slot {
-    // its handle
-    Bound(u64),
-    // the index where its word would stand
-    Free(usize),
-}
-
-// Among the n bindings from index from on, which rise, by halves.
-fn find_slot(bindings: &[u64], from: usize, n: usize, seg: u64) -> Slot
+// A segment among the n bindings from an index on, which rise, by halves: its handle, or the index where its word would stand.
+fn find_slot(bindings: &[u64], from: usize, n: usize, seg: u64) -> Result<u32, usize>
     requires { (from + n ≤ length bindings.now) × Rising bindings.now from n }
     ensures { result ≡ slot_in seg (map binding_of (take n (drop from bindings.now))) from }
 {
-    let end = from + n;
-    let mut lo = from;
-    let mut hi = end;
-    while lo < hi {
-        let mid = lo + (hi - lo) / 2;
-        if bindings[mid] / SEGMENT < seg {
-            lo = mid + 1;
-        } else {
-            hi = mid;
-        }
+    let own = &bindings[from..from + n];
+    match own.binary_search_by_key(&seg, |word| BindingWord(*word).segment()) {
+        Ok(i) => Ok(BindingWord(own[i]).handle()),
+        Err(i) => Err(from + i),
     }
-    if end <= lo {
-        return Slot::Free(lo);
-    }
-    let b = bindings[lo];
-    if b / SEGMENT == seg {
-        return Slot::Bound(b % SEGMENT);
-    }
-    Slot::Free(lo)
 }
 
-// Where a path's last segment is bound, or would be.
-#[derive(Clone, Copy)]
+// A path's last segment among its level's bindings: a lookup wants the first, an edit the second, and neither is a refusal.
+#[derive(Clone, Copy, Debug, PartialEq, Eq)]
 pub enum Spot {
     // its handle
-    Bound(u64),
-    // the index of its level's record, and where its word would stand among the bindings
-    Free(usize, usize),
-    Refused(AmlError),
+    Bound(u32),
+    // its level's record, and where its word would stand
+    Free(Place),
 }
 
-fn find_spot_in(levels: &[u64], bindings: &[u64], path: &[u64]) -> Spot
+fn find_spot_in(levels: &[u64], bindings: &[u64], path: &[u64]) -> Result<Spot, AmlError>
     requires { (length levels.now ≡ limits.levels) × (1 < length path.now) × (length path.now ≤ component_limit) × BindingsHeld levels.now bindings.now }
     ensures { result ≡ spot_in levels.now bindings.now path.now }
 {
     let n = path.len() - 1;
-    let found = seek(levels, &path[..n]);
-    match found {
-        Sought::Here(at, from) => {
-            let count = (levels[at] / COUNT % COUNTS) as usize;
-            let seen = find_slot(bindings, from, count, path[n]);
-            match seen {
-                Slot::Bound(h) => Spot::Bound(h),
-                Slot::Free(i) => Spot::Free(at, i),
+    match seek(levels, &path[..n]) {
+        Sought::Here(place) => {
+            let count = LevelWord(levels[place.level]).count();
+            match find_slot(bindings, place.binding, count, path[n]) {
+                Ok(handle) => Ok(Spot::Bound(handle)),
+                Err(binding) => Ok(Spot::Free(Place {
+                    level: place.level,
+                    binding,
+                })),
             }
         }
-        Sought::Before(_) => Spot::Refused(AmlError::LevelDoesNotExist(n - 1)),
-        Sought::Missing(p) => Spot::Refused(AmlError::LevelDoesNotExist(p)),
+        Sought::Before(_) => Err(AmlError::LevelDoesNotExist(n - 1)),
+        Sought::Missing(p) => Err(AmlError::LevelDoesNotExist(p)),
     }
 }
 
-pub fn find_spot(table: &[u64], path: &[u64]) -> Spot
+// Where a path's last segment is bound, or would be.
+pub fn find_spot(table: &[u64], path: &[u64]) -> Result<Spot, AmlError>
     requires { (is_well_formed limits table.now ≡ true) × Keyed component_limit path.now }
     ensures { result ≡ spot_in (take limits.levels table.now) (take limits.bindings (drop limits.levels table.now)) path.now }
 {
     if path.len() <= 1 {
-        return Spot::Refused(AmlError::RootNotAllowed);
+        return Err(AmlError::RootNotAllowed);
     }
     find_spot_in(&table[..LEVELS], &table[LEVELS..COUNT_AT], path)
 }
 
-// One binding more, of the level whose record stands at index at; its word goes to index i of the bindings.
-pub fn bind(table: &mut [u64], at: usize, i: usize, word: u64)
-    requires { (length table.old ≡ size limits) × (at < limits.levels) × (i ≤ limits.bindings) × (get_or table.old at 0 + 2 ^ 32 < 2 ^ 64) }
-    ensures { table.new ≡ bind_words limits table.old at i word }
+// One binding more: its level counts it, and its word goes to a place of the bindings.
+pub fn bind(table: &mut [u64], place: Place, word: u64)
+    requires { (length table.old ≡ size limits) × (place.level < limits.levels) × (place.binding ≤ limits.bindings) × (get_or table.old place.level 0 + 2 ^ 32 < 2 ^ 64) }
+    ensures { table.new ≡ bind_words limits table.old place.level place.binding word }
 {
-    table[at] += COUNT;
-    make_room(&mut table[LEVELS..COUNT_AT], i, word);
+    table[place.level] += COUNT;
+    make_room(&mut table[LEVELS..COUNT_AT], place.binding, word);
 }
 
-// The innermost scope that holds a segment: how many components it has, 0 for none, and the handle.
-#[derive(Clone, Copy)]
+// The innermost scope that holds a segment: how many components it has, and the handle.
+#[derive(Clone, Copy, Debug, PartialEq, Eq)]
 pub struct Nearest {
     pub depth: usize,
-    pub handle: u64,
+    pub handle: u32,
 }
 
-// Down the scope's levels, from the root on, as far as they are there: how many they are, and for each the index of its record and of its first binding.
-fn trail(
-    levels: &[u64],
-    scope: &[u64],
-    ats: &mut [usize; COMPONENTS],
-    froms: &mut [usize; COMPONENTS],
-) -> usize
-    requires { (length levels.now ≤ limits.levels) × (length scope.now ≤ component_limit) × (length ats.old ≡ component_limit) × (length froms.old ≡ component_limit) }
-    ensures { Trailed levels.now scope.now ats.new froms.new result }
+// Down the scope's levels, from the root on, as far as they are there: how many they are, and the place of each, in an array, since memory is fixed.
+fn trail(levels: &[u64], scope: &[u64], places: &mut [Place; COMPONENTS]) -> usize
+    requires { (length levels.now ≤ limits.levels) × (length scope.now ≤ component_limit) }
+    ensures { Trailed levels.now scope.now places.new result }
 {
-    let mut m = 0;
-    let mut k = 0;
-    let mut j = 0;
-    while j < scope.len() {
-        let found = find_child(levels, k, m, j as u64 + 1, scope[j]);
-        match found {
-            Child::Gone(_) => {
-                return j;
+    let mut next = START;
+    for (j, seg) in scope.iter().enumerate() {
+        match find_child(levels, next, j + 1, *seg) {
+            Ok(child) => {
+                places[j] = child;
+                next = behind(levels, child);
             }
-            Child::At(i, n) => {
-                ats[j] = i;
-                froms[j] = n;
-                m = n + (levels[i] / COUNT % COUNTS) as usize;
-                k = i + 1;
-                j += 1;
-            }
+            Err(_) => return j,
         }
     }
-    j
+    scope.len()
 }
 
 // The scope is asked, and then each around it, by the levels that are there.
-pub fn nearest_value(levels: &[u64], bindings: &[u64], scope: &[u64], seg: u64) -> Nearest
+pub fn nearest_value(levels: &[u64], bindings: &[u64], scope: &[u64], seg: u64) -> Option<Nearest>
     requires { (length levels.now ≤ limits.levels) × (length scope.now ≤ component_limit) × BindingsHeld levels.now bindings.now }
     ensures { result ≡ nearest_of (deepest (value_held levels.now bindings.now scope.now seg) (length scope.now)) }
 {
-    let mut ats = [0usize; COMPONENTS];
-    let mut froms = [0usize; COMPONENTS];
-    let mut depth = trail(levels, scope, &mut ats, &mut froms);
-    while 0 < depth {
-        let at = ats[depth - 1];
-        let from = froms[depth - 1];
-        let count = (levels[at] / COUNT % COUNTS) as usize;
-        let found = find_slot(bindings, from, count, seg);
-        match found {
-            Slot::Bound(handle) => {
-                return Nearest { depth, handle };
-            }
-            Slot::Free(_) => {
-                depth -= 1;
-            }
+    let mut places = [START; COMPONENTS];
+    let there = trail(levels, scope, &mut places);
+    for i in (0..there).rev() {
+        let place = places[i];
+        let count = LevelWord(levels[place.level]).count();
+        if let Ok(handle) = find_slot(bindings, place.binding, count, seg) {
+            let depth = i + 1;
+            return Some(Nearest { depth, handle });
         }
     }
-    Nearest {
-        depth: 0,
-        handle: 0,
-    }
+    None
 }
 
-// The same over levels: how many components the innermost scope has that holds one of that segment, 0 for none.
-pub fn nearest_level(levels: &[u64], scope: &[u64], seg: u64) -> usize
+// The same over levels: how many components the innermost scope has that holds one of that segment. What is asked needs other facts than above, and the
+// contract of a walk that takes it as a closure would be longer than the walk.
+pub fn nearest_level(levels: &[u64], scope: &[u64], seg: u64) -> Option<usize>
     requires { (length levels.now ≤ limits.levels) × (length scope.now ≤ component_limit) }
     ensures { result ≡ depth_of (deepest (level_held levels.now scope.now seg) (length scope.now)) }
 {
-    let mut ats = [0usize; COMPONENTS];
-    let mut froms = [0usize; COMPONENTS];
-    let mut depth = trail(levels, scope, &mut ats, &mut froms);
-    while 0 < depth {
-        let at = ats[depth - 1];
-        let found = find_child(levels, at + 1, 0, depth as u64 + 1, seg);
-        match found {
-            Child::At(_, _) => {
-                return depth;
-            }
-            Child::Gone(_) => {
-                depth -= 1;
-            }
+    let mut places = [START; COMPONENTS];
+    let there = trail(levels, scope, &mut places);
+    for i in (0..there).rev() {
+        let depth = i + 1;
+        let next = Place {
+            level: places[i].level + 1,
+            binding: 0,
+        };
+        if find_child(levels, next, depth + 1, seg).is_ok() {
+            return Some(depth);
         }
     }
-    0
+    None
 }

@@ -1,4 +1,6 @@
 // How much a table holds, and where it stands (specs/Limits.antt, specs/Layout.antt).
+ghost use Rattle.std.specs.Prelude.{◌≡◌, ◌^◌, ◌<◌};
+ghost use Rattle.table.specs.Layout.{pack, rank_of, type_of, count_of, seg_of, bind_word, binding_of};
 
 pub const LEVELS: usize = 128;
 
@@ -35,3 +37,69 @@ pub const SEGMENT: u64 = 0x1_0000_0000;
 pub const FIRST_SEGMENT: u64 = 506530;
 
 pub const SEGMENTS_END: u64 = 1874161;
+
+// A level's record: its fields in one word.
+#[derive(Clone, Copy, Debug, PartialEq, Eq)]
+pub struct LevelWord(pub u64);
+
+impl LevelWord {
+    // The word of a level with that many components, of a type's number, with that many bindings and of a segment's number.
+    #[tactic(auto, unfolding(crate::specs::Layout::pack))]
+    pub fn new(rank: usize, typ: u64, count: usize, segment: u64) -> LevelWord
+        requires { (rank < 2 ^ 19) × (typ < 8) × (count < 1024) × (segment < 2 ^ 32) }
+        ensures { result.0 ≡ pack rank typ count segment }
+    {
+        LevelWord(rank as u64 * RANK + typ * TYPE + count as u64 * COUNT + segment)
+    }
+
+    // How many components its path has, the root's one.
+    pub fn rank(self) -> usize
+        ensures { result ≡ rank_of self.0 }
+    {
+        (self.0 / RANK) as usize
+    }
+
+    pub fn typ(self) -> u64
+        ensures { result ≡ type_of self.0 }
+    {
+        self.0 / TYPE % 8
+    }
+
+    // How many bindings it has.
+    pub fn count(self) -> usize
+        ensures { result ≡ count_of self.0 }
+    {
+        (self.0 / COUNT % COUNTS) as usize
+    }
+
+    pub fn segment(self) -> u64
+        ensures { result ≡ seg_of self.0 }
+    {
+        self.0 % SEGMENT
+    }
+}
+
+// A binding: a segment and the handle that it is bound to, in one word.
+#[derive(Clone, Copy, Debug, PartialEq, Eq)]
+pub struct BindingWord(pub u64);
+
+impl BindingWord {
+    pub fn new(segment: u64, handle: u32) -> BindingWord
+        requires { segment < 2 ^ 32 }
+        ensures { result.0 ≡ bind_word (record { segment = segment; handle = handle }) }
+    {
+        BindingWord(segment * SEGMENT + handle as u64)
+    }
+
+    pub fn segment(self) -> u64
+        ensures { result ≡ (binding_of self.0).segment }
+    {
+        self.0 / SEGMENT
+    }
+
+    pub fn handle(self) -> u32
+        ensures { result ≡ (binding_of self.0).handle }
+    {
+        (self.0 % SEGMENT) as u32
+    }
+}

@@ -13,13 +13,10 @@ pub mod segments;
 pub fn well_formed(table: &[u64]) -> bool
     ensures { result ≡ is_well_formed limits table.now }
 {
-    if table.len() == layout::WORDS {
-        inner::parts_fit(
+    table.len() == layout::WORDS
+        && inner::parts_fit(
             &table[..layout::LEVELS],
             &table[layout::LEVELS..layout::COUNT_AT],
             &table[layout::COUNT_AT..],
         )
-    } else {
-        false
-    }
 }

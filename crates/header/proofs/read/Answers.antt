@@ -1,21 +1,33 @@
--- Each return is one case of the definition: too short, no signature, or what follows the signature.
-use mathlib.Core.Path.{sym, ◌∙◌, ap}
-use lib.Seq.{length-take-le}
+-- Each return is one case of the definition: too short, no signature, then the length and the sum.
+use mathlib.Core.Path.{sym, ◌∙◌}
 use native.Mathlib.Omega.{arith}
-use Rattle.header.specs.Inside.{signature_said}
-use Rattle.header.proofs.Headers.{header-short, header-unsigned, header-signed}
+use Rattle.pkg_length.proofs.Answers.{residual}
+use Rattle.header.proofs.Headers.{header-short, header-unsigned, header-signed, length-low, length_high, sum-wrong, header-good}
 use Rattle.header.proofs.read.Goals as goal
 
-pub returns-then-table-lt36 : goal.returns-then-table-lt36
-returns-then-table-lt36 c = header-short _ (omega arith)
+pub returns-then-table-lt-LENGTH : goal.returns-then-table-lt-LENGTH
+returns-then-table-lt-LENGTH c = header-short _ (omega arith)
 
-pub slice_bounds-signature_of-end : goal.slice_bounds-signature_of-end
-slice_bounds-signature_of-end c = sym (length-take-le 4 c.args.table.now (omega arith))
+pub returns-in_err-signature : goal.returns-in_err-signature
+returns-in_err-signature c =
+    residual _ _ c.from_residual.ensures ∙ header-unsigned _ (omega arith) c.in_err-signature.ensures
 
-pub returns-in-Refused : goal.returns-in-Refused
-returns-in-Refused c = header-unsigned _ (omega arith) (sym (ap signature_said c.in-Refused.is) ∙ c.signature_of.ensures)
+pub returns-then-end-lt-LENGTH : goal.returns-then-end-lt-LENGTH
+returns-then-end-lt-LENGTH c =
+    length-low _ _ _ c.little_endian-end.ensures (omega arith)
+    ∙ header-signed _ (omega arith) c.in_ok-signature.ensures
 
-pub returns-in-Is : goal.returns-in-Is
-returns-in-Is c =
-    c.read_signed.ensures
-    ∙ header-signed _ (omega arith) (sym (ap signature_said c.in-Is.is) ∙ c.signature_of.ensures)
+pub returns-then-table-end : goal.returns-then-table-end
+returns-then-table-end c =
+    length_high _ _ _ c.little_endian-end.ensures (omega arith) (omega arith)
+    ∙ header-signed _ (omega arith) c.in_ok-signature.ensures
+
+pub returns-then-sum-ne0 : goal.returns-then-sum-ne0
+returns-then-sum-ne0 c =
+    sum-wrong _ _ _ c.little_endian-end.ensures (omega arith) (omega arith) (λ z. c.if-sum-ne0.true (c.sum.ensures ∙ z))
+    ∙ header-signed _ (omega arith) c.in_ok-signature.ensures
+
+pub returns : goal.returns
+returns c =
+    header-good _ _ _ c.little_endian-end.ensures (omega arith) (omega arith) (sym c.sum.ensures ∙ c.if-sum-ne0.false)
+    ∙ header-signed _ (omega arith) c.in_ok-signature.ensures

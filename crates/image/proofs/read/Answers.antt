@@ -8,7 +8,7 @@ use Rattle.pkg_length.specs.Refusal.{gives}
 use Rattle.table.specs.Limits.{limits}
 use Rattle.image.specs.Bits.{bits_in}
 use Rattle.image.specs.Format.{first_edition}
-use Rattle.image.specs.Inside.{header_said}
+use Rattle.pkg_length.proofs.Answers.{residual}
 use Rattle.image.proofs.Checks.{refused-is, fine-arm}
 use Rattle.image.specs.Reader.{first, image_checks, tree_in}
 use Rattle.image.proofs.Filling.{read-wrong, read-refused, read-fine}
@@ -23,52 +23,36 @@ use Rattle.image.proofs.read.Goals as goal
 same_read : {ws vs : List ℕ} {c d : Counts} → ws ≡ vs → c ≡ d → ◌≡◌ {A = Left Counts} (record { words = ws; said = gives c }) (record { words = vs; said = gives d })
 same_read e f = λ i. record { words = e i; said = gives (f i) }
 
+pub returns-in_err-c : goal.returns-in_err-c
+returns-in_err-c c =
+    let a = c.args in
+    rw (residual _ _ c.from_residual.ensures)
+    (sym (read-refused first_edition limits a.bytes.now a.table.now c.if-table-ne-WORDS.false
+    (refused-is (first (image_checks first_edition limits (bits_in a.bytes.now))) (counts_in a.bytes.now) c.in_err-c.ensures)))
+
 pub fill-requires : goal.fill-requires
 fill-requires c =
     let a = c.args in
-    let x = fine-arm (first (image_checks first_edition limits (bits_in a.bytes.now))) (counts_in a.bytes.now)
-    c.in-Fine.c (sym (ap header_said c.in-Fine.is) ∙ c.image.ensures) in (
-      record {
-        levels = ap (λ (n : Counts). n.levels) x.1;
-        bindings = ap (λ (n : Counts). n.bindings) x.1;
-        objects = ap
-            (λ (n : Counts). n.objects) x.1;
-        checked = x.0;
-      },
-      c.if-table-eq-WORDS.true,
-    )
-
-pub returns-in-Refused : goal.returns-in-Refused
-returns-in-Refused c =
-    let a = c.args in
-    sym (read-refused first_edition limits a.bytes.now a.table.now c.if-table-eq-WORDS.true
-    (refused-is (first (image_checks first_edition limits (bits_in a.bytes.now))) (counts_in a.bytes.now)
-    (sym (ap header_said c.in-Refused.is) ∙ c.image.ensures)))
+    let x = fine-arm (first (image_checks first_edition limits (bits_in a.bytes.now))) (counts_in a.bytes.now) c.in_ok-c.c c.in_ok-c.ensures in
+    (record { counts = x.1; checked = x.0 }, c.if-table-ne-WORDS.false)
 
 pub shape_of-table : goal.shape_of-table
 shape_of-table c =
     let a = c.args in
-    let x = fine-arm (first (image_checks first_edition limits (bits_in a.bytes.now))) (counts_in a.bytes.now)
-    c.in-Fine.c
-    (sym (ap header_said c.in-Fine.is)
-    ∙ c.image.ensures) in
+    let x = fine-arm (first (image_checks first_edition limits (bits_in a.bytes.now))) (counts_in a.bytes.now) c.in_ok-c.c c.in_ok-c.ensures in
     ap length (c.fill.ensures ∙ loaded-is first_edition limits (bits_in a.bytes.now)
     (read-contents first_edition limits a.bytes.now x.0 refl (omega arith) (omega arith))) ∙ encode-length limits (omega arith)
     (tree_in first_edition (bits_in a.bytes.now)) (read-contents first_edition limits a.bytes.now x.0 refl (omega arith) (omega arith)).whole
-    ∙ sym c.if-table-eq-WORDS.true
+    ∙ sym c.if-table-ne-WORDS.false
 
-pub returns-in-Fine : goal.returns-in-Fine
-returns-in-Fine c =
+pub returns : goal.returns
+returns c =
     let a = c.args in
-    let x = fine-arm (first (image_checks first_edition limits (bits_in a.bytes.now))) (counts_in a.bytes.now)
-    c.in-Fine.c
-    (sym (ap header_said c.in-Fine.is)
-    ∙ c.image.ensures) in
+    let x = fine-arm (first (image_checks first_edition limits (bits_in a.bytes.now))) (counts_in a.bytes.now) c.in_ok-c.c c.in_ok-c.ensures in
     same_read (c.fill.ensures ∙ loaded-is first_edition limits (bits_in a.bytes.now)
     (read-contents first_edition limits a.bytes.now x.0 refl (omega arith) (omega arith))) x.1 ∙ sym
-    (read-fine first_edition limits a.bytes.now a.table.now c.if-table-eq-WORDS.true
-    x.0)
+    (read-fine first_edition limits a.bytes.now a.table.now c.if-table-ne-WORDS.false x.0)
 
-pub returns-else-table-eq-WORDS : goal.returns-else-table-eq-WORDS
-returns-else-table-eq-WORDS c =
-    let a = c.args in sym (read-wrong first_edition limits a.bytes.now a.table.now c.if-table-eq-WORDS.false)
+pub returns-then-table-ne-WORDS : goal.returns-then-table-ne-WORDS
+returns-then-table-ne-WORDS c =
+    let a = c.args in sym (read-wrong first_edition limits a.bytes.now a.table.now c.if-table-ne-WORDS.true)

@@ -1,24 +1,26 @@
--- The `^`s passed and those still to come are the whole prefix.
-use mathlib.Core.Path.{sym, ◌∙◌}
-use Rattle.name_object.proofs.Prefix.{carets-end, carets-stop, carets-turn, prefix-none, prefix-root, prefix-carets}
-use native.Mathlib.Omega.{arith}
+-- The root's byte alone, or as many `^`s as there are.
+use mathlib.Core.Path.{◌≡◌, sym, ◌∙◌}
+use lib.ListN.{get_or}
+use borrow.Author.Tests.{eqb-true}
+use Rattle.std.proofs.Common.{eqb, rules, tests}
+use Rattle.std.proofs.lemmas.Iterator.{YieldsList-from_slice}
+use Rattle.std.proofs.lemmas.Iterator.Consumers.{count_from_yields_List}
+use Rattle.std.proofs.lemmas.Iterator.Search.{YieldsList-from_take_while}
+use Rattle.std.proofs.lemmas.List.Folds.{length-prefix_len}
+use Rattle.name_object.proofs.Prefix.{no-root, prefix-root, prefix-carets}
 use Rattle.name_object.proofs.prefixes.Goals as goal
-
-pub returns-then-input-eq0 : goal.returns-then-input-eq0
-returns-then-input-eq0 c = (prefix-none _ (omega arith), omega arith)
+use Rattle.name_object.proofs.prefixes.Goals.{else-not-is_empty-via-then-not-is_empty+else-input-eq-ROOT_CHAR, else-not-is_empty-via-else-not-is_empty}
 
 pub returns-then-input-eq-ROOT_CHAR : goal.returns-then-input-eq-ROOT_CHAR
-returns-then-input-eq-ROOT_CHAR c = (prefix-root _ c.if-input-eq-ROOT_CHAR.true, omega arith)
-
-pub loop-k-init : goal.loop-k-init
-loop-k-init c = (omega arith, prefix-carets _ c.if-input-eq-ROOT_CHAR.false)
-
-pub loop-k-preserved : goal.loop-k-preserved
-loop-k-preserved c = (omega arith, carets-turn _ _ (omega arith) c.if-input-k-eq-PREFIX_CHAR.true ∙ c.loop-k.invariant.1)
-
-pub returns-else-input-k-eq-PREFIX_CHAR : goal.returns-else-input-k-eq-PREFIX_CHAR
-returns-else-input-k-eq-PREFIX_CHAR c =
-    (sym (carets-stop _ _ (omega arith) c.if-input-k-eq-PREFIX_CHAR.false) ∙ c.loop-k.invariant.1, omega arith)
+returns-then-input-eq-ROOT_CHAR c = prefix-root _ c.if-input-eq-ROOT_CHAR.true
 
 pub returns : goal.returns
-returns c = (sym (carets-end _ _ (omega arith)) ∙ c.loop-k.invariant.1, omega arith)
+returns c =
+    let s = c.args.input.now in
+    let many = count_from_yields_List c.take_while.result _ c.count.ensures.ran (YieldsList-from_take_while _ (λ b. eqb b 0x5E) (YieldsList-from_slice s cc) c.take_while.ensures.closure c.take_while.ensures.done (λ x b q k. search (rules, tests))) in
+    let other : get_or s 0 0 ≡ 0x5C → ⊥ =
+    elim c.else-not-is_empty.branch [
+      | else-not-is_empty-via-then-not-is_empty+else-input-eq-ROOT_CHAR w ↦ w.if-input-eq-ROOT_CHAR.false
+      | else-not-is_empty-via-else-not-is_empty w ↦ no-root s (eqb-true _ _ (sym c.is_empty.ensures ∙ w.if-not-is_empty.false))
+    ] in
+    prefix-carets s _ other (many ∙ length-prefix_len (λ b. eqb b 0x5E) s)

@@ -1,50 +1,29 @@
 -- 24, what the path is refused with, and then the work on the tree.
-use mathlib.Core.Path.{◌≡◌, ap, sym, ◌∙◌}
-use Prim.Native.Nat.{ℕ}
-use lib.ListN.{length, take}
-use lib.Seq.{length-take-le}
+use mathlib.Core.Path.{ap, ◌∙◌}
 use Rattle.name_object.specs.Component.{component_limit}
+use Rattle.pkg_length.proofs.Answers.{residual}
 use Rattle.table.specs.Limits.{limits}
-use Rattle.table.specs.Memory.{decode, left, done}
+use Rattle.table.specs.Memory.{left, done}
 use Rattle.table.specs.Edits.{add_level_answer}
-use Rattle.namespace.specs.Calls.{settled_keys, add_level_call, number_of_type}
-use Rattle.namespace.proofs.Calls.{call-given, call-refused, left-kept}
-use Rattle.namespace.proofs.Laws.{type-low}
-use borrow.Author.Rules.{rules}
-use native.Mathlib.Omega.{arith}
+use Rattle.namespace.specs.Calls.{edit_left, settled_keys, add_level_call, number_of_type}
+use Rattle.namespace.proofs.Calls.{unformed, formed-at, call-given, call-refused, left-kept}
 use Rattle.namespace.proofs.add_level.Goals as goal
 
-pub slice_bounds-keys-end : goal.slice_bounds-keys-end
-slice_bounds-keys-end c =
-    let len : length c.keyed-found.result.keys ≡ component_limit = search rules in
-    omega (arith, (c.keyed-found.ensures.given c.in-Done.is).1.short)
-
-pub slice_bounds-add_level-end : goal.slice_bounds-add_level-end
-slice_bounds-add_level-end c =
-    let len : length c.keyed-found.result.keys ≡ component_limit = search rules in
-    sym (length-take-le c.keyed-found.result.count c.keyed-found.result.keys (omega (arith, (c.keyed-found.ensures.given c.in-Done.is).1.short)))
-
-pub add_level-requires : goal.add_level-requires
-add_level-requires c =
-    let g = c.keyed-found.ensures.given c.in-Done.is in
-    (g.0, g.1.keyed, rw c.type_number.ensures (type-low c.args.typ))
-
-pub returns-in-Refused : goal.returns-in-Refused
-unfolding add_level_call
-returns-in-Refused c =
+pub returns-in_err-of : goal.returns-in_err-of
+returns-in_err-of c =
     let ws = c.args.table.now in
-    left-kept limits ws _ _ _
-    (call-refused limits ws (settled_keys component_limit c.args.path) c.keyed-found.result c.keyed-found.ensures (λ t p. done (add_level_answer limits t p (number_of_type c.args.typ)))
-    c.in-Refused.e c.in-Refused.is)
+    ap (edit_left ws) (residual c.from_residual.result c.in_err-of.field-0.0 c.from_residual.ensures)
+    ∙ left-kept limits ws _ _ (add_level_call limits ws c.args.path c.args.typ) (unfold add_level_call in unformed limits ws _ c.in_err-of.field-0.0 c.in_err-of.ensures)
 
-pub returns-in-Done : goal.returns-in-Done
+pub returns-in_err-keys : goal.returns-in_err-keys
 unfolding add_level_call
-returns-in-Done c =
+returns-in_err-keys c =
     let ws = c.args.table.now in
-    c.add_level.ensures ∙ ap (λ (n : ℕ). left limits ws (done (add_level_answer limits (decode limits ws) (take c.keyed-found.result.count c.keyed-found.result.keys) n))) c.type_number.ensures
-    ∙ ap (left limits ws) (call-given limits ws
-    (settled_keys component_limit c.args.path)
-    c.keyed-found.result
-    c.keyed-found.ensures
-    (λ t p. done (add_level_answer limits t p (number_of_type c.args.typ)))
-    c.in-Done.is)
+    ap (edit_left ws) (residual c.from_residual-in_err-keys.result c.in_err-keys.field-0.0 c.from_residual-in_err-keys.ensures)
+    ∙ left-kept limits ws _ _ _ (call-refused limits ws (formed-at limits c.in_ok-of.field-0.words.now c.args.table.now c.in_ok-of.ensures c.in_ok-of.field-0.formed) (settled_keys component_limit c.args.path) (λ t p. done (add_level_answer limits t p (number_of_type c.args.typ))) _ _ c.in_err-keys.ensures)
+
+pub returns : goal.returns
+unfolding add_level_call
+returns c =
+    let ws = c.args.table.now in
+    c.add_level.ensures ∙ ap (left limits ws) (call-given limits ws (formed-at limits c.in_ok-of.field-0.words.now c.args.table.now c.in_ok-of.ensures c.in_ok-of.field-0.formed) (settled_keys component_limit c.args.path) (λ t p. done (add_level_answer limits t p (number_of_type c.args.typ))) c.in_ok-keys.keys c.in_ok-keys.ensures)

@@ -1,20 +1,23 @@
 -- 24, then the object.
-use mathlib.Core.Path.{sym, ◌∙◌}
+use mathlib.Core.Path.{ap, ◌∙◌}
+use mathlib.Core.List.{List}
+use Prim.Native.Nat.{ℕ}
+use Rattle.pkg_length.proofs.Answers.{residual}
 use Rattle.table.specs.Limits.{limits}
+use Rattle.table.specs.Memory.{decode}
 use Rattle.table.specs.Edits.{value_of}
 use Rattle.namespace.specs.Calls.{get_call}
-use Rattle.namespace.proofs.Calls.{mean-bad, mean-given}
+use Rattle.namespace.proofs.Calls.{unformed, formed-at, mean-given}
 use Rattle.namespace.proofs.get.Goals as goal
 
-pub read-requires : goal.read-requires
-read-requires c = sym c.well_formed-2.ensures ∙ c.if-well_formed.true
-
-pub returns-then-well_formed : goal.returns-then-well_formed
+pub returns-in_err-of : goal.returns-in_err-of
 unfolding get_call
-returns-then-well_formed c =
-    c.read.ensures ∙ mean-given limits c.args.table.now (λ t. value_of t c.args.handle.0) (sym c.well_formed-2.ensures ∙ c.if-well_formed.true)
+returns-in_err-of c =
+    residual c.from_residual.result c.in_err-of.field-0.0 c.from_residual.ensures
+    ∙ unformed limits c.args.table.now (λ t. value_of t c.args.handle.0) c.in_err-of.field-0.0 c.in_err-of.ensures
 
-pub returns-else-well_formed : goal.returns-else-well_formed
+pub returns : goal.returns
 unfolding get_call
-returns-else-well_formed c =
-    mean-bad limits c.args.table.now (λ t. value_of t c.args.handle.0) (sym c.well_formed-2.ensures ∙ c.if-well_formed.false)
+returns c =
+    c.read.ensures ∙ ap (λ (ws : List ℕ). value_of (decode limits ws) c.args.handle.0) c.in_ok-of.ensures
+    ∙ mean-given limits c.args.table.now (λ t. value_of t c.args.handle.0) (formed-at limits c.in_ok-of.field-0.words.now c.args.table.now c.in_ok-of.ensures c.in_ok-of.field-0.formed)

@@ -1,23 +1,30 @@
--- From the handle that the path gives.
-use mathlib.Core.Path.{ap, sym, ◌∙◌}
-use Rattle.name_object.specs.Component.{component_limit}
+-- 24, what the path is refused with, the lookup, and then the object.
+use mathlib.Core.Path.{◌∙◌}
+use Rattle.pkg_length.proofs.Answers.{residual}
 use Rattle.table.specs.Limits.{limits}
-use Rattle.table.specs.Edits.{look_up_answer, value_of}
-use Rattle.namespace.specs.Calls.{settled_keys, handle_said, get_handle_call, get_by_path_call}
-use Rattle.namespace.proofs.Calls.{call-formed, then-given, then-refused}
+use Rattle.table.proofs.Objects.{means-formed}
+use Rattle.namespace.specs.Calls.{get_by_path_call}
+use Rattle.namespace.proofs.Calls.{unformed, formed-at}
 use Rattle.namespace.proofs.get_by_path.Goals as goal
 
-pub read-requires : goal.read-requires
-unfolding get_handle_call
-read-requires c =
-    call-formed limits c.args.table.now (settled_keys component_limit c.args.path) (λ t p. look_up_answer t p) (λ t h. value_of t h) c.in-Handle.handle.0 (sym (ap handle_said c.in-Handle.is) ∙ c.get_handle-found.ensures)
+pub returns-in_err-table : goal.returns-in_err-table
+returns-in_err-table c =
+    residual c.from_residual.result c.in_err-table.field-0.0 c.from_residual.ensures
+    ∙ (unfold get_by_path_call in unformed limits c.args.table.now _ c.in_err-table.field-0.0 c.in_err-table.ensures)
 
-pub returns-in-Handle : goal.returns-in-Handle
-unfolding get_handle_call get_by_path_call
-returns-in-Handle c =
-    c.read.ensures ∙ then-given limits c.args.table.now (settled_keys component_limit c.args.path) (λ t p. look_up_answer t p) (λ t h. value_of t h) c.in-Handle.handle.0 (sym (ap handle_said c.in-Handle.is) ∙ c.get_handle-found.ensures)
+pub returns-in_err-settled : goal.returns-in_err-settled
+unfolding get_by_path_call
+returns-in_err-settled c =
+    residual c.from_residual-in_err-settled.result c.in_err-settled.field-0.0 c.from_residual-in_err-settled.ensures
+    ∙ (rw (means-formed limits c.args.table.now (formed-at limits c.in_ok-table.table.words.now c.args.table.now c.in_ok-table.ensures c.in_ok-table.table.formed), ← c.in_err-settled.ensures))
 
-pub returns-in-Refused : goal.returns-in-Refused
-unfolding get_handle_call get_by_path_call
-returns-in-Refused c =
-    then-refused limits c.args.table.now (settled_keys component_limit c.args.path) (λ t p. look_up_answer t p) (λ t h. value_of t h) _ _ (sym (ap handle_said c.in-Refused.is) ∙ c.get_handle-found.ensures)
+pub returns-in_err-bound : goal.returns-in_err-bound
+unfolding get_by_path_call
+returns-in_err-bound c =
+    residual c.from_residual-in_err-bound.result c.in_err-bound.field-0.0 c.from_residual-in_err-bound.ensures
+    ∙ (rw (means-formed limits c.args.table.now (formed-at limits c.in_ok-table.table.words.now c.args.table.now c.in_ok-table.ensures c.in_ok-table.table.formed), ← c.in_ok-settled.ensures, ← rw c.in_ok-table.ensures at c.in_err-bound.ensures))
+
+pub returns : goal.returns
+unfolding get_by_path_call
+returns c =
+    rw c.in_ok-table.ensures at c.read.ensures ∙ rw (means-formed limits c.args.table.now (formed-at limits c.in_ok-table.table.words.now c.args.table.now c.in_ok-table.ensures c.in_ok-table.table.formed), ← c.in_ok-settled.ensures, ← rw c.in_ok-table.ensures at c.in_ok-bound.ensures)

@@ -1,23 +1,22 @@
 -- 24, then the object.
-use mathlib.Core.Path.{ap, sym, ◌∙◌}
+use mathlib.Core.Path.{ap, ◌∙◌}
+use Rattle.pkg_length.proofs.Answers.{residual}
 use Rattle.table.specs.Limits.{limits}
 use Rattle.table.specs.Memory.{left, done}
 use Rattle.table.specs.Edits.{set_value}
-use Rattle.namespace.specs.Calls.{set_call}
-use Rattle.namespace.proofs.Calls.{mean-bad, mean-given, left-kept}
+use Rattle.namespace.specs.Calls.{edit_left, set_call}
+use Rattle.namespace.proofs.Calls.{unformed, formed-at, mean-given, left-kept}
 use Rattle.namespace.proofs.set.Goals as goal
 
-pub write-requires : goal.write-requires
-write-requires c = sym c.well_formed-2.ensures ∙ c.if-well_formed.true
-
-pub returns-then-well_formed : goal.returns-then-well_formed
+pub returns-in_err-of : goal.returns-in_err-of
 unfolding set_call
-returns-then-well_formed c =
+returns-in_err-of c =
     let ws = c.args.table.now in
-    c.write.ensures ∙ ap (left limits ws) (mean-given limits ws (λ t. done (set_value t c.args.handle.0 c.args.value)) (sym c.well_formed-2.ensures ∙ c.if-well_formed.true))
+    ap (edit_left ws) (residual c.from_residual.result c.in_err-of.field-0.0 c.from_residual.ensures)
+    ∙ left-kept limits ws _ _ _ (unformed limits ws (λ t. done (set_value t c.args.handle.0 c.args.value)) c.in_err-of.field-0.0 c.in_err-of.ensures)
 
-pub returns-else-well_formed : goal.returns-else-well_formed
+pub returns : goal.returns
 unfolding set_call
-returns-else-well_formed c =
+returns c =
     let ws = c.args.table.now in
-    left-kept limits ws _ _ _ (mean-bad limits ws (λ t. done (set_value t c.args.handle.0 c.args.value)) (sym c.well_formed-2.ensures ∙ c.if-well_formed.false))
+    c.write.ensures ∙ ap (left limits ws) (mean-given limits ws (λ t. done (set_value t c.args.handle.0 c.args.value)) (formed-at limits c.in_ok-of.field-0.words.now c.args.table.now c.in_ok-of.ensures c.in_ok-of.field-0.formed))

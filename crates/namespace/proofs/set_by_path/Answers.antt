@@ -1,28 +1,31 @@
--- From the handle that the path gives.
-use mathlib.Core.Path.{ap, sym, ◌∙◌}
-use Rattle.name_object.specs.Component.{component_limit}
+-- 24, what the path is refused with, the lookup, and then the object.
+use mathlib.Core.Path.{ap, ◌∙◌}
+use Rattle.pkg_length.proofs.Answers.{residual}
 use Rattle.table.specs.Limits.{limits}
-use Rattle.table.specs.Memory.{left, done}
-use Rattle.table.specs.Edits.{look_up_answer, set_value}
-use Rattle.namespace.specs.Calls.{settled_keys, handle_said, get_handle_call, set_by_path_call}
-use Rattle.namespace.proofs.Calls.{call-formed, then-given, then-refused, left-kept}
+use Rattle.table.specs.Memory.{left}
+use Rattle.table.proofs.Objects.{means-formed}
+use Rattle.namespace.specs.Calls.{edit_left, set_by_path_call}
+use Rattle.namespace.proofs.Calls.{unformed, formed-at, left-kept}
 use Rattle.namespace.proofs.set_by_path.Goals as goal
 
-pub write-requires : goal.write-requires
-unfolding get_handle_call
-write-requires c =
-    call-formed limits c.args.table.now (settled_keys component_limit c.args.path) (λ t p. look_up_answer t p) (λ t h. done (set_value t h c.args.value)) c.in-Handle.handle.0
-    (sym (ap handle_said c.in-Handle.is) ∙ c.get_handle-found.ensures)
+pub returns-in_err-lent : goal.returns-in_err-lent
+returns-in_err-lent c =
+    ap (edit_left c.args.table.now) (residual c.from_residual.result c.in_err-lent.field-0.0 c.from_residual.ensures)
+    ∙ left-kept limits c.args.table.now _ _ (set_by_path_call limits c.args.table.now c.args.path c.args.value) (unfold set_by_path_call in unformed limits c.args.table.now _ c.in_err-lent.field-0.0 c.in_err-lent.ensures)
 
-pub returns-in-Handle : goal.returns-in-Handle
-unfolding get_handle_call set_by_path_call
-returns-in-Handle c =
-    let ws = c.args.table.now in
-    c.write.ensures ∙ ap (left limits ws) (then-given limits ws (settled_keys component_limit c.args.path) (λ t p. look_up_answer t p) (λ t h. done (set_value t h c.args.value)) c.in-Handle.handle.0
-    (sym (ap handle_said c.in-Handle.is) ∙ c.get_handle-found.ensures))
+pub returns-in_err-settled : goal.returns-in_err-settled
+unfolding set_by_path_call
+returns-in_err-settled c =
+    ap (edit_left c.args.table.now) (residual c.from_residual-in_err-settled.result c.in_err-settled.field-0.0 c.from_residual-in_err-settled.ensures)
+    ∙ left-kept limits c.args.table.now _ _ _ (rw (means-formed limits c.args.table.now (formed-at limits c.in_ok-lent.lent.words.now c.args.table.now c.in_ok-lent.ensures c.in_ok-lent.lent.formed), ← c.in_err-settled.ensures))
 
-pub returns-in-Refused : goal.returns-in-Refused
-unfolding get_handle_call set_by_path_call
-returns-in-Refused c =
-    let ws = c.args.table.now in
-    left-kept limits ws _ _ _ (then-refused limits ws (settled_keys component_limit c.args.path) (λ t p. look_up_answer t p) (λ t h. done (set_value t h c.args.value)) _ _ (sym (ap handle_said c.in-Refused.is) ∙ c.get_handle-found.ensures))
+pub returns-in_err-bound : goal.returns-in_err-bound
+unfolding set_by_path_call
+returns-in_err-bound c =
+    ap (edit_left c.args.table.now) (residual c.from_residual-in_err-bound.result c.in_err-bound.field-0.0 c.from_residual-in_err-bound.ensures)
+    ∙ left-kept limits c.args.table.now _ _ _ (rw (means-formed limits c.args.table.now (formed-at limits c.in_ok-lent.lent.words.now c.args.table.now c.in_ok-lent.ensures c.in_ok-lent.lent.formed), ← c.in_ok-settled.ensures, ← rw c.in_ok-lent.ensures at c.in_err-bound.ensures))
+
+pub returns : goal.returns
+unfolding set_by_path_call
+returns c =
+    c.write.ensures ∙ ap (left limits c.args.table.now) (rw (means-formed limits c.args.table.now (formed-at limits c.in_ok-lent.lent.words.now c.args.table.now c.in_ok-lent.ensures c.in_ok-lent.lent.formed), ← c.in_ok-settled.ensures, ← rw c.in_ok-lent.ensures at c.in_ok-bound.ensures))

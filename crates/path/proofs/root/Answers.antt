@@ -9,5 +9,4 @@ pub push-requires : goal.push-requires
 push-requires c = omega (arith, count_none component_limit c.empty.result c.empty.ensures)
 
 pub returns : goal.returns
-returns c =
-    push-first component_limit _ c.empty.result root 0x5C 0 0 0 (omega arith) refl c.push.ensures c.empty.ensures
+returns c = push-first component_limit _ c.empty.result root 0x5C 0 0 0 (omega arith) refl c.push.ensures c.empty.ensures

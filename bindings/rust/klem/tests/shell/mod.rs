@@ -478,7 +478,7 @@ fn ran(w: &[&[u8]], width: Width) -> Said {
     Ok(format!("{end} units {} cells {}", ran.units, cells.join(" ")))
 }
 
-// Two sums over the halves of all words, modulo a prime below 2^31, as crates/klem/src/calls.rt has them.
+// Two sums over the halves of all words, modulo a prime below 2^31, as crates/klem/src/looks.rt has them.
 fn digest(words: &[u64]) -> u64 {
     let sum = |factor: u64| words.iter().flat_map(|w| [w >> 32, w & 0xFFFF_FFFF]).fold(1, |d, half| (d * factor + half) % 2_147_483_647);
     sum(65_599) * 2_147_483_648 + sum(1_000_003)

@@ -16,7 +16,7 @@ all-fits b s n v p q r hb hs e f g = rw (e, f, g) (merged-low b s n v hb hs)
 
 pub overflow_mul-high : goal.overflow_mul-high
 overflow_mul-high c =
-    let a = c.args in record { fits = high_fits a.b (8 - a.behind) c.power.result (search rules) c.power.ensures }
+    let a = c.args in record { fits = rw c.from.ensures (high_fits a.b (8 - a.behind) c.power.result (search rules) c.power.ensures) }
 
 pub nonzero_rem-result : goal.nonzero_rem-result
 nonzero_rem-result c = omega (arith, c.power-2.ensures, pow_pos c.args.n)
@@ -27,11 +27,11 @@ overflow_mul-result c =
 
 pub overflow_add-result : goal.overflow_add-result
 overflow_add-result c =
-    let a = c.args in record { fits = omega (arith, all-fits a.b a.behind a.n a.v c.power.result c.power-2.result c.power-3.result (search rules) c.requires c.power.ensures c.power-2.ensures c.power-3.ensures) }
+    let a = c.args in record { fits = rw c.from.ensures (omega (arith, all-fits a.b a.behind a.n a.v c.power.result c.power-2.result c.power-3.result (search rules) c.requires c.power.ensures c.power-2.ensures c.power-3.ensures)) }
 
 pub overflow_cast-result : goal.overflow_cast-result
 overflow_cast-result c =
-    let a = c.args in record { fits = all-fits a.b a.behind a.n a.v c.power.result c.power-2.result c.power-3.result (search rules) c.requires c.power.ensures c.power-2.ensures c.power-3.ensures }
+    let a = c.args in record { fits = rw c.from.ensures (all-fits a.b a.behind a.n a.v c.power.result c.power-2.result c.power-3.result (search rules) c.requires c.power.ensures c.power-2.ensures c.power-3.ensures) }
 
 pub returns : goal.returns
-returns c = let a = c.args in rw (c.power.ensures, c.power-2.ensures, c.power-3.ensures)
+returns c = rw (c.from.ensures, c.power.ensures, c.power-2.ensures, c.power-3.ensures)

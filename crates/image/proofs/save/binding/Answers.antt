@@ -14,8 +14,8 @@ unfolding binding_fields
 returns c =
     let a = c.args in
     let o = a.out.now in
-    let e₁ = one_field o c.put.new.out a.at 32 (bytes_of_segment (a.w / 2 ^ 32))
-    (c.put.ensures ∙ ap (λ (v : ℕ). ink o a.at (bits 32 v))
-    c.chars-chars.ensures.0) in
-    more-field o c.put.new.out c.put-2.new.out a.at (a.at + 32) 10
-    (a.w % 2 ^ 32) (field 32 (bytes_of_segment (a.w / 2 ^ 32)) ∷ []) e₁ (search rules) refl c.put-2.ensures
+    let s = a.word / 2 ^ 32 in
+    let e₁ = one_field o c.put.new.out a.at 32 (bytes_of_segment s)
+    (c.put.ensures ∙ ap (λ (v : ℕ). ink o a.at (bits 32 v)) (c.chars-chars.ensures.0 ∙ ap bytes_of_segment c.segment.ensures)) in
+    more-field o c.put.new.out c.put-2.new.out a.at (a.at + 32) 10 (a.word % 2 ^ 32) (field 32 (bytes_of_segment s) ∷ []) e₁ (search rules) refl
+    (c.put-2.ensures ∙ ap (λ (v : ℕ). ink c.put.new.out (a.at + 32) (bits 10 v)) (c.from.ensures ∙ c.handle.ensures))

@@ -1,14 +1,8 @@
-use mathlib.Core.Path.{◌≡◌}
-use Prim.Native.Nat.{◌-◌, ◌≤◌}
-use lib.ListN.{length, take, drop}
 use Rattle.image.specs.Format.{first_edition}
 use Rattle.image.specs.Bits.{spelled}
-use Rattle.image.specs.Inside.{ink, words_fields}
+use Rattle.image.specs.Inside.{fields_of_word}
+use Rattle.image.proofs.Written.{Put}
 use Rattle.image.proofs.save.levels.Given as goal
 
-abbrev pub invariant-loop-k : goal.invariant-loop-k
-invariant-loop-k l =
-    (l.out ≡ ink l.initial.out l.at (spelled (words_fields first_edition (drop 1 (take l.k l.words))))) × (1 ≤ l.k) × (l.k ≤ l.n) × (length l.out ≡ length l.initial.out)
-
-abbrev pub decreases-loop-k : goal.decreases-loop-k
-decreases-loop-k l = l.n - l.k
+abbrev pub invariant-loop-word : goal.invariant-loop-word
+invariant-loop-word l = Put (λ w. spelled (fields_of_word first_edition w)) 41 l.initial.out l.fn.at l.words l.word-index l.out l.at

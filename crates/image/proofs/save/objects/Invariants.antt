@@ -1,14 +1,6 @@
-use mathlib.Core.Path.{◌≡◌}
-use Prim.Native.Nat.{◌-◌, ◌≤◌}
-use lib.ListN.{length, take}
-use Rattle.image.specs.Bits.{spelled}
-use Rattle.image.specs.Image.{object_fields}
-use Rattle.image.specs.Inside.{ink}
+use Rattle.image.specs.Bits.{bits}
+use Rattle.image.proofs.Written.{Put}
 use Rattle.image.proofs.save.objects.Given as goal
 
-abbrev pub invariant-loop-k : goal.invariant-loop-k
-invariant-loop-k l =
-    (l.out ≡ ink l.initial.out l.at (spelled (object_fields (take l.k l.values)))) × (l.k ≤ l.n) × (length l.out ≡ length l.initial.out)
-
-abbrev pub decreases-loop-k : goal.decreases-loop-k
-decreases-loop-k l = l.n - l.k
+abbrev pub invariant-loop-value : goal.invariant-loop-value
+invariant-loop-value l = Put (bits 64) 64 l.initial.out l.fn.at l.values l.value-index l.out l.at

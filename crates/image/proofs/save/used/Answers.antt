@@ -1,47 +1,36 @@
--- Every word so far is used.
+-- The first word that is 0 is the first spare one.
+use borrow.Author.Tests.{tests, eq-eqb, ne_eqb}
 use borrow.Author.Rules.{rules}
 use native.Mathlib.Omega.{arith}
-use mathlib.Core.Path.{◌≡◌, sym, ◌∙◌}
-use mathlib.Core.List.{List}
-use Prim.Native.Nat.{ℕ, ◌+◌, ◌<◌}
-use native.Mathlib.Numerals.{add-one}
-use lib.ListN.{length, drop, get_or}
-use borrow.Author.Tests.{ne_eqb}
+use mathlib.Core.Path.{◌≡◌, refl, ap, ◌∙◌}
+use mathlib.Core.Logic.{◌≢◌}
+use mathlib.Core.List.{List, [], ◌∷◌}
+use Prim.Native.Nat.{ℕ, zero, suc, ◌<◌, ◌≤◌}
+use lib.ListN.{length, take, get_or}
+use Rattle.std.specs.Prelude.{Option, None, Some}
+use Rattle.std.specs.Option.{MatchOption, unwrap_or}
+use Rattle.std.specs.List.{AllWithin, HoldsAt}
+use Rattle.std.proofs.lemmas.Iterator.{IsFirst-from_position, YieldsList-from_slice}
 use Rattle.image.specs.Inside.{used_of}
-use lib.Seq.{drop-cons, drop-length}
 use Rattle.image.proofs.save.used.Goals as goal
 
-start : (n : ℕ) → n ≡ 0 + n
-start n = omega arith
-
-ended : (ws : List ℕ) (k : ℕ) → k < length ws → get_or ws k 0 ≡ 0 → k + used_of (drop k ws) ≡ k
+used-to : (ws : List ℕ) (n : ℕ) → ((k : ℕ) → k < n → get_or ws k 0 ≡ 0 → ⊥) → n ≤ length ws → (n < length ws → get_or ws n 0 ≡ 0) → n ≡ used_of ws
 unfolding used_of
-ended ws k h e = rw (drop-cons ws k 0 h, e) (omega arith)
+used-to [] zero h l z = refl
+used-to [] (suc n) h l z = absurd (omega arith)
+used-to (w ∷ ws) zero h l z = rw (eq-eqb w 0 (z (omega arith)))
+used-to (w ∷ ws) (suc n) h l z = rw (ne_eqb w 0 (h 0 (omega arith))) (ap suc (used-to ws n (λ k j. h (suc k) (omega arith)) (omega arith) (λ j. z (omega arith))))
 
-more : (ws : List ℕ) (k : ℕ) → k < length ws → (get_or ws k 0 ≡ 0 → ⊥) → k + used_of (drop k ws) ≡ (k + 1) + used_of (drop (k + 1) ws)
-unfolding used_of
-more ws k h n = rw (add-one k, drop-cons ws k 0 h, ne_eqb (get_or ws k 0) 0 n) (omega arith)
-
-all-used : (ws : List ℕ) (k : ℕ) → k ≡ length ws → k + used_of (drop k ws) ≡ k
-all-used ws k e = rw (e, drop-length ws) (unfold used_of in plus_none (length ws))
-  where
-    plus_none : (n : ℕ) → n + 0 ≡ n
-    plus_none n = omega arith
-
-pub loop-k-init : goal.loop-k-init
-loop-k-init c = let a = c.args in (start (used_of a.words.now), search rules)
-
-pub returns-then-words-k-eq0 : goal.returns-then-words-k-eq0
-returns-then-words-k-eq0 c =
-    let a = c.args in
-    let l = c.loop-k in
-    sym (l.invariant.0 ∙ ended a.words.now l.k (search rules) c.if-words-k-eq0.true)
-
-pub loop-k-preserved : goal.loop-k-preserved
-loop-k-preserved c =
-    let a = c.args in
-    let l = c.loop-k in
-    (l.invariant.0 ∙ more a.words.now l.k (search rules) c.if-words-k-eq0.false, search rules)
+first-spare : (ws : List ℕ) (r : Option ℕ)
+    → MatchOption r (AllWithin (λ (x : ℕ). x ≢ 0) ws 0 (length ws)) (λ i. (i < length ws) × HoldsAt (λ (x : ℕ). x ≡ 0) ws i × AllWithin (λ (x : ℕ). x ≢ 0) ws 0 i)
+    → unwrap_or r (length ws) ≡ used_of ws
+first-spare ws None h = used-to ws (length ws) (λ k j. h k 0 (omega arith) j) (omega arith) (λ j. absurd (omega arith))
+first-spare ws (Some i) h = let l : i < length ws = h.0 in used-to ws i (λ k j. h.2 k 0 (omega arith) j) (omega arith) (λ j. h.1 0)
 
 pub returns : goal.returns
-returns c = let a = c.args in let l = c.loop-k in sym (l.invariant.0 ∙ all-used a.words.now l.k (search rules))
+returns c =
+    let ws = c.args.words.now in
+    ap (λ (n : ℕ). take n ws)
+    (c.unwrap_or-n.ensures
+    ∙ first-spare ws c.position.result
+    (IsFirst-from_position _ _ _ (λ x. x ≡ 0) (λ x. x ≢ 0) c.position.ensures.ran (YieldsList-from_slice ws cc) (λ x q k. search (rules, tests)) (λ x q k. search (rules, tests))))

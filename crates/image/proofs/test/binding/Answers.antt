@@ -1,53 +1,42 @@
 -- The segment, then the handle.
-use borrow.Author.Rules.{rules}
-use mathlib.Core.Path.{ap, sym, ◌∙◌}
-use Prim.Native.Nat.{◌+◌}
+use mathlib.Core.Path.{ap, ◌∙◌}
 use Rattle.pkg_length.specs.Refusal.{gives}
 use Rattle.image.specs.Bits.{bits_in, number_at}
 use Rattle.image.specs.Format.{first_edition}
-use Rattle.image.specs.Inside.{number_said}
-use Rattle.image.proofs.Checks.{no-fit, yes-fit, room, refused-is, fine-arm, binding-refused, binding-short, binding-handle, binding-fine}
+use Rattle.pkg_length.proofs.Answers.{residual}
+use Rattle.image.proofs.Checks.{lack, has, refused-is, fine-arm, binding-refused, binding-short, binding-handle, binding-fine}
 use Rattle.image.specs.Reader.{first, segment_number, segment_checks}
 use Rattle.image.proofs.test.binding.Goals as goal
 
-pub returns-then-short : goal.returns-then-short
-returns-then-short c =
+pub returns-in_err-s : goal.returns-in_err-s
+returns-in_err-s c =
     let a = c.args in
-    let x = fine-arm (first (segment_checks (bits_in a.bytes.now) a.at a.lo)) (segment_number (number_at (bits_in a.bytes.now) 32 a.at))
-    c.in-Fine.s (sym (ap number_said c.in-Fine.is)
-    ∙ c.segment.ensures) in
-    binding-short first_edition (bits_in a.bytes.now) a.made a.at a.lo (segment_number (number_at (bits_in a.bytes.now) 32 a.at))
-    x.0 (no-fit c.short.ensures c.if-short.true)
+    let bs = bits_in a.bytes.now in
+    residual _ _ c.from_residual.ensures
+    ∙ binding-refused first_edition bs a.made a.at a.lo (segment_number (number_at bs 32 a.at))
+    (refused-is (first (segment_checks bs a.at a.lo)) (segment_number (number_at bs 32 a.at)) c.in_err-s.ensures)
 
-pub field-requires : goal.field-requires
-field-requires c =
+pub returns-in_err-handle : goal.returns-in_err-handle
+returns-in_err-handle c =
     let a = c.args in
-    (room a.bytes.now (a.at + 32) 10 (yes-fit c.short.ensures c.if-short.false), search rules, search rules)
+    let bs = bits_in a.bytes.now in
+    let x = fine-arm (first (segment_checks bs a.at a.lo)) (segment_number (number_at bs 32 a.at)) c.in_ok-s.s c.in_ok-s.ensures in
+    residual _ _ c.from_residual-in_err-handle.ensures
+    ∙ lack _ c.in_err-handle.ensures (binding-short first_edition bs a.made a.at a.lo (segment_number (number_at bs 32 a.at)) x.0)
 
-pub returns-then-made-field : goal.returns-then-made-field
-returns-then-made-field c =
+pub returns-then-made-handle : goal.returns-then-made-handle
+returns-then-made-handle c =
     let a = c.args in
-    let x = fine-arm (first (segment_checks (bits_in a.bytes.now) a.at a.lo)) (segment_number (number_at (bits_in a.bytes.now) 32 a.at))
-    c.in-Fine.s
-    (sym (ap number_said c.in-Fine.is)
-    ∙ c.segment.ensures) in
-    binding-handle first_edition (bits_in a.bytes.now) a.made a.at a.lo (segment_number (number_at (bits_in a.bytes.now) 32 a.at))
-    x.0 (yes-fit c.short.ensures c.if-short.false) (rw c.field.ensures at c.if-made-field.true)
+    let bs = bits_in a.bytes.now in
+    let x = fine-arm (first (segment_checks bs a.at a.lo)) (segment_number (number_at bs 32 a.at)) c.in_ok-s.s c.in_ok-s.ensures in
+    let y = has _ _ c.in_ok-handle.ensures in
+    binding-handle first_edition bs a.made a.at a.lo (segment_number (number_at bs 32 a.at)) x.0 y.0 (rw y.1 at c.if-made-handle.true)
 
-pub returns-in-Refused : goal.returns-in-Refused
-returns-in-Refused c =
+pub returns : goal.returns
+returns c =
     let a = c.args in
-    binding-refused first_edition (bits_in a.bytes.now) a.made a.at a.lo (segment_number (number_at (bits_in a.bytes.now) 32 a.at))
-    (refused-is (first (segment_checks (bits_in a.bytes.now) a.at a.lo)) (segment_number (number_at (bits_in a.bytes.now) 32 a.at))
-    (sym (ap number_said c.in-Refused.is) ∙ c.segment.ensures))
-
-pub returns-else-made-field : goal.returns-else-made-field
-returns-else-made-field c =
-    let a = c.args in
-    let x = fine-arm (first (segment_checks (bits_in a.bytes.now) a.at a.lo)) (segment_number (number_at (bits_in a.bytes.now) 32 a.at))
-    c.in-Fine.s
-    (sym (ap number_said c.in-Fine.is)
-    ∙ c.segment.ensures) in
-    ap gives x.1 ∙ binding-fine first_edition (bits_in a.bytes.now) a.made a.at a.lo
-    (segment_number (number_at (bits_in a.bytes.now) 32 a.at)) x.0
-    (yes-fit c.short.ensures c.if-short.false) (rw c.field.ensures at c.if-made-field.false)
+    let bs = bits_in a.bytes.now in
+    let x = fine-arm (first (segment_checks bs a.at a.lo)) (segment_number (number_at bs 32 a.at)) c.in_ok-s.s c.in_ok-s.ensures in
+    let y = has _ _ c.in_ok-handle.ensures in
+    ap gives x.1
+    ∙ binding-fine first_edition bs a.made a.at a.lo (segment_number (number_at bs 32 a.at)) x.0 y.0 (rw y.1 at c.if-made-handle.false)

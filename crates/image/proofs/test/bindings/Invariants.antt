@@ -1,5 +1,5 @@
 use mathlib.Core.Path.{◌≡◌}
-use Prim.Native.Nat.{◌+◌, ◌-◌, ◌*◌, ◌≤◌}
+use Prim.Native.Nat.{◌+◌, ◌-◌, ◌*◌}
 use Rattle.image.specs.Bits.{bits_in}
 use Rattle.image.specs.Format.{first_edition}
 use Rattle.image.specs.Reader.{first, bindings_checks}
@@ -7,7 +7,4 @@ use Rattle.image.proofs.test.bindings.Given as goal
 
 abbrev pub invariant-loop-k : goal.invariant-loop-k
 invariant-loop-k l =
-    (first (bindings_checks first_edition (bits_in l.bytes) l.made (l.n - l.k) (l.at + l.k * 42) l.lo) ≡ first (bindings_checks first_edition (bits_in l.bytes) l.made l.n l.at 0)) × (l.k ≤ l.n)
-
-abbrev pub decreases-loop-k : goal.decreases-loop-k
-decreases-loop-k l = l.n - l.k
+    first (bindings_checks first_edition (bits_in l.bytes) l.made (l.n - l.k) (l.at + l.k * 42) l.lo) ≡ first (bindings_checks first_edition (bits_in l.bytes) l.made l.n l.at 0)

@@ -1,49 +1,45 @@
 -- Levels, bindings, and the rest.
 use borrow.Author.Rules.{rules}
-use mathlib.Core.Path.{ap, sym, ◌∙◌}
+use mathlib.Core.Path.{sym, ◌∙◌}
 use Rattle.image.specs.Bits.{bits_in}
 use Rattle.image.specs.Format.{first_edition, bindings_place}
-use Rattle.image.specs.Inside.{tested}
+use Rattle.pkg_length.proofs.Answers.{residual}
 use Rattle.image.proofs.Fields.{length-bits_in}
 use Rattle.image.specs.Reader.{root_seen}
 use Rattle.image.proofs.Steps.{body-levels, body-bound, body-rest}
 use Rattle.image.proofs.Rooms.{levels-room, bound-room}
 use Rattle.image.proofs.test.body.Goals as goal
 
+pub returns-in_err-levels : goal.returns-in_err-levels
+returns-in_err-levels c =
+    let a = c.args in
+    residual _ _ c.from_residual.ensures
+    ∙ body-levels first_edition (bits_in a.bytes.now) a.c.levels a.c.bindings a.c.objects (sym c.in_err-levels.ensures)
+
 pub bound-requires : goal.bound-requires
 bound-requires c =
     let a = c.args in
     let l = length-bits_in a.bytes.now in
-    let r = levels-room first_edition (bits_in a.bytes.now) a.n 32 0 (root_seen first_edition)
-    (sym (sym (ap tested c.in-Fine.is) ∙ c.levels.ensures)) (rw l (search rules)) in
+    let r = levels-room first_edition (bits_in a.bytes.now) a.c.levels 32 0 (root_seen first_edition) (sym c.in_ok-levels.ensures)
+    (rw l (search rules)) in
     (search rules, search rules, rw l at r)
+
+pub returns-in_err-bound : goal.returns-in_err-bound
+returns-in_err-bound c =
+    let a = c.args in
+    residual _ _ c.from_residual-in_err-bound.ensures
+    ∙ body-bound first_edition (bits_in a.bytes.now) a.c.levels a.c.bindings a.c.objects (sym c.in_ok-levels.ensures) (sym c.in_err-bound.ensures)
 
 pub rest-requires : goal.rest-requires
 rest-requires c =
     let a = c.args in
     let l = length-bits_in a.bytes.now in
-    let r = bound-room first_edition (bits_in a.bytes.now) a.made a.n 32 (bindings_place first_edition a.n) 0 a.total
-    (sym (sym (ap tested c.in-Fine-bound.is) ∙ c.bound.ensures)) in
+    let r = bound-room first_edition (bits_in a.bytes.now) a.c.objects a.c.levels 32 (bindings_place first_edition a.c.levels) 0 a.c.bindings
+    (sym c.in_ok-bound.ensures) in
     (search rules, search rules, search rules, rw l at r)
 
-pub returns-in-Refused : goal.returns-in-Refused
-returns-in-Refused c =
+pub returns : goal.returns
+returns c =
     let a = c.args in
-    body-levels first_edition (bits_in a.bytes.now) a.n a.total a.made
-    (sym (sym (ap tested c.in-Refused.is) ∙ c.levels.ensures))
-
-pub returns-in-Refused-bound : goal.returns-in-Refused-bound
-returns-in-Refused-bound c =
-    let a = c.args in
-    body-bound first_edition (bits_in a.bytes.now) a.n a.total a.made
-    (sym (sym (ap tested c.in-Fine.is)
-    ∙ c.levels.ensures))
-    (sym (sym (ap tested c.in-Refused-bound.is) ∙ c.bound.ensures))
-
-pub returns-in-Fine-bound : goal.returns-in-Fine-bound
-returns-in-Fine-bound c =
-    let a = c.args in
-    c.rest.ensures ∙ sym (body-rest first_edition (bits_in a.bytes.now) a.n a.total a.made
-    (sym (sym (ap tested c.in-Fine.is)
-    ∙ c.levels.ensures))
-    (sym (sym (ap tested c.in-Fine-bound.is) ∙ c.bound.ensures)))
+    c.rest.ensures
+    ∙ sym (body-rest first_edition (bits_in a.bytes.now) a.c.levels a.c.bindings a.c.objects (sym c.in_ok-levels.ensures) (sym c.in_ok-bound.ensures))

@@ -5,11 +5,10 @@ use Rattle.image.specs.Format.{first_edition}
 use Rattle.image.specs.Reader.{first, bound_checks}
 use Rattle.image.proofs.test.bound.Given as goal
 
-abbrev pub invariant-loop-e : goal.invariant-loop-e
-invariant-loop-e l =
-    (first (bound_checks first_edition (bits_in l.bytes) l.made (l.n - l.k) (32 + l.k * 41) l.at l.depth l.rest) ≡ first
-    (bound_checks first_edition (bits_in l.bytes) l.made l.n 32 (32 + l.n * 41) 0 l.total))
-    × (l.k ≤ l.n) × (l.rest ≤ l.total) × (l.at + l.rest * 42 ≡ 32 + l.n * 41 + l.k * 10 + l.total * 42)
-
-abbrev pub decreases-loop-e : goal.decreases-loop-e
-decreases-loop-e l = l.n - l.k
+abbrev pub invariant-loop-k : goal.invariant-loop-k
+invariant-loop-k l =
+    record {
+      left : first (bound_checks first_edition (bits_in l.bytes) l.made (l.n - l.k) (32 + l.k * 41) l.at l.depth l.rest) ≡ first (bound_checks first_edition (bits_in l.bytes) l.made l.n 32 (32 + l.n * 41) 0 l.total);
+      few : l.rest ≤ l.total;
+      place : l.at + l.rest * 42 ≡ 32 + l.n * 41 + l.k * 10 + l.total * 42;
+    }

@@ -5,12 +5,11 @@ use Rattle.pkg_length.specs.Refusal.{Answer, gives, refuses, and_then}
 use Rattle.table.specs.Limits.{limits}
 use Rattle.image.specs.Bits.{bits_in}
 use Rattle.image.specs.Format.{first_edition}
-use Rattle.image.specs.Inside.{tested, header_said}
+use Rattle.pkg_length.proofs.Answers.{residual}
 use Rattle.image.proofs.Fields.{length-bits_in}
 use Rattle.image.proofs.Checks.{refused-is, fine-arm}
 use Rattle.image.specs.Reader.{first, body_checks, header_checks, levels_in, bindings_in, objects_in}
 use Rattle.image.proofs.Steps.{image-parts, header-holds}
-use Rattle.image.specs.declared.Counts.{Counts}
 use Rattle.image.specs.Calls.{counts_in}
 use Rattle.image.proofs.test.image.Goals as goal
 
@@ -23,43 +22,37 @@ later-refused v y z e f g = rw (e, f, g)
 later-fine : {A : Type 0} (v : A) {x : Answer (Unit {0})} (y z : Answer (Unit {0})) → x ≡ and_then y (λ _. z) → y ≡ gives tt → z ≡ gives tt → gives v ≡ and_then x (λ _. gives v)
 later-fine v y z e f g = rw (e, f, g)
 
+pub returns-in_err-c : goal.returns-in_err-c
+returns-in_err-c c =
+    let bs = bits_in c.args.bytes.now in
+    residual _ _ c.from_residual.ensures
+    ∙ refused_all (first (header_checks first_edition limits bs))
+    (first (body_checks first_edition bs (levels_in bs) (bindings_in bs) (objects_in bs))) (image-parts first_edition limits bs)
+    (counts_in c.args.bytes.now) c.in_err-c.ensures
+
 pub body-requires : goal.body-requires
 body-requires c =
-    let a = c.args in
-    let x = fine-arm (first (header_checks first_edition limits (bits_in a.bytes.now))) (counts_in a.bytes.now) c.in-Fine.c
-    (sym (ap header_said c.in-Fine.is) ∙ c.header.ensures) in
-    let h = header-holds first_edition limits (bits_in a.bytes.now) x.0 in
-    rw x.1 (h.levels, h.bindings, h.objects, rw (length-bits_in a.bytes.now) at h.room)
+    let bytes = c.args.bytes.now in
+    let x = fine-arm (first (header_checks first_edition limits (bits_in bytes))) (counts_in bytes) c.in_ok-c.c c.in_ok-c.ensures in
+    let h = header-holds first_edition limits (bits_in bytes) x.0 in
+    rw x.1 (h.levels, h.bindings, h.objects, rw (length-bits_in bytes) at h.room)
 
-pub returns-in-Refused : goal.returns-in-Refused
-returns-in-Refused c =
-    let a = c.args in
-    refused_all (first (header_checks first_edition limits (bits_in a.bytes.now)))
-    (first (body_checks first_edition (bits_in a.bytes.now) (levels_in (bits_in a.bytes.now)) (bindings_in (bits_in a.bytes.now))
-    (objects_in (bits_in a.bytes.now)))) (image-parts first_edition limits (bits_in a.bytes.now)) (counts_in a.bytes.now)
-    (sym (ap header_said c.in-Refused.is) ∙ c.header.ensures)
+pub returns-in_err-body : goal.returns-in_err-body
+returns-in_err-body c =
+    let bytes = c.args.bytes.now in
+    let bs = bits_in bytes in
+    let x = fine-arm (first (header_checks first_edition limits bs)) (counts_in bytes) c.in_ok-c.c c.in_ok-c.ensures in
+    residual _ _ c.from_residual-in_err-body.ensures
+    ∙ later-refused (counts_in bytes) (first (header_checks first_edition limits bs))
+    (first (body_checks first_edition bs (levels_in bs) (bindings_in bs) (objects_in bs))) (image-parts first_edition limits bs) x.0
+    (sym (rw x.1 at c.in_err-body.ensures))
 
-pub returns-in-Refused-body : goal.returns-in-Refused-body
-returns-in-Refused-body c =
-    let a = c.args in
-    let x = fine-arm (first (header_checks first_edition limits (bits_in a.bytes.now))) (counts_in a.bytes.now)
-    c.in-Fine.c
-    (sym (ap header_said c.in-Fine.is)
-    ∙ c.header.ensures) in
-    later-refused (counts_in a.bytes.now) (first (header_checks first_edition limits (bits_in a.bytes.now)))
-    (first (body_checks first_edition (bits_in a.bytes.now) (levels_in (bits_in a.bytes.now)) (bindings_in (bits_in a.bytes.now))
-    (objects_in (bits_in a.bytes.now)))) (image-parts first_edition limits (bits_in a.bytes.now)) x.0
-    (sym (sym (ap tested c.in-Refused-body.is) ∙ c.body.ensures ∙
-    (ap (λ (n : Counts). first (body_checks first_edition (bits_in a.bytes.now) n.levels n.bindings n.objects)) x.1)))
-
-pub returns-in-Fine-body : goal.returns-in-Fine-body
-returns-in-Fine-body c =
-    let a = c.args in
-    let x = fine-arm (first (header_checks first_edition limits (bits_in a.bytes.now))) (counts_in a.bytes.now)
-    c.in-Fine.c (sym (ap header_said c.in-Fine.is)
-    ∙ c.header.ensures) in
-    ap gives x.1 ∙ later-fine (counts_in a.bytes.now) (first (header_checks first_edition limits (bits_in a.bytes.now)))
-    (first (body_checks first_edition (bits_in a.bytes.now) (levels_in (bits_in a.bytes.now)) (bindings_in (bits_in a.bytes.now))
-    (objects_in (bits_in a.bytes.now)))) (image-parts first_edition limits (bits_in a.bytes.now)) x.0
-    (sym (sym (ap tested c.in-Fine-body.is) ∙ c.body.ensures ∙
-    (ap (λ (n : Counts). first (body_checks first_edition (bits_in a.bytes.now) n.levels n.bindings n.objects)) x.1)))
+pub returns : goal.returns
+returns c =
+    let bytes = c.args.bytes.now in
+    let bs = bits_in bytes in
+    let x = fine-arm (first (header_checks first_edition limits bs)) (counts_in bytes) c.in_ok-c.c c.in_ok-c.ensures in
+    ap gives x.1
+    ∙ later-fine (counts_in bytes) (first (header_checks first_edition limits bs))
+    (first (body_checks first_edition bs (levels_in bs) (bindings_in bs) (objects_in bs))) (image-parts first_edition limits bs) x.0
+    (sym (rw x.1 at c.in_ok-body.ensures))

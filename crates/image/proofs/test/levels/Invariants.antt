@@ -7,8 +7,7 @@ use Rattle.image.proofs.test.levels.Given as goal
 
 abbrev pub invariant-loop-k : goal.invariant-loop-k
 invariant-loop-k l =
-    (first (levels_checks first_edition (bits_in l.bytes) (l.n - l.k) (32 + l.k * 41) l.before l.low) ≡ first
-    (levels_checks first_edition (bits_in l.bytes) l.n 32 0 (root_seen first_edition))) × (l.k ≤ l.n) × (l.before ≤ 31)
-
-abbrev pub decreases-loop-k : goal.decreases-loop-k
-decreases-loop-k l = l.n - l.k
+    record {
+      rest : first (levels_checks first_edition (bits_in l.bytes) (l.n - l.k) (32 + l.k * 41) l.before l.low) ≡ first (levels_checks first_edition (bits_in l.bytes) l.n 32 0 (root_seen first_edition));
+      shallow : l.before ≤ 31;
+    }

@@ -1,12 +1,8 @@
 use mathlib.Core.Path.{◌≡◌}
-use Prim.Native.Nat.{◌+◌, ◌-◌, ◌*◌, ◌≤◌}
+use Prim.Native.Nat.{◌+◌, ◌-◌, ◌*◌}
 use Rattle.image.specs.Bits.{bits_in}
 use Rattle.image.specs.Reader.{first, object_checks}
 use Rattle.image.proofs.test.objects.Given as goal
 
 abbrev pub invariant-loop-k : goal.invariant-loop-k
-invariant-loop-k l =
-    (first (object_checks (bits_in l.bytes) (l.n - l.k) (l.at + l.k * 64)) ≡ first (object_checks (bits_in l.bytes) l.n l.at)) × (l.k ≤ l.n)
-
-abbrev pub decreases-loop-k : goal.decreases-loop-k
-decreases-loop-k l = l.n - l.k
+invariant-loop-k l = first (object_checks (bits_in l.bytes) (l.n - l.k) (l.at + l.k * 64)) ≡ first (object_checks (bits_in l.bytes) l.n l.at)

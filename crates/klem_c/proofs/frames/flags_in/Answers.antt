@@ -1,16 +1,25 @@
--- What is behind the loop is the flags of the words, and what is before it is as it was (`flagged`).
--- The measure is the cells that are left.
-use mathlib.Core.Path.{◌∙◌, refl}
+-- What is behind the loop is the flags of the words.
+use mathlib.Core.Path.{◌≡◌, refl, ◌∙◌}
+use native.Mathlib.Omega.{arith}
+use lib.ListN.{length, take}
+use lib.Seq.{length-take-le}
 use borrow.Author.Rules.{rules}
-use Rattle.klem_c.proofs.Copies.{flagged, flagged-all}
+use Rattle.grammar.specs.Grammar.{cells}
+use Rattle.klem_c.specs.Frames.{is_set, flags_at}
+use Rattle.klem_c.proofs.Copies.{filled-more, filled-whole}
 use Rattle.klem_c.proofs.frames.flags_in.Goals as goal
 
-pub loop-i-init : goal.loop-i-init
-loop-i-init c = (search rules, refl)
-
-pub loop-i-preserved : goal.loop-i-preserved
-loop-i-preserved c =
-    (search rules, rw c.loop-i.invariant.1 (flagged c.args.words.now c.requires c.loop-i.i (search rules)))
+pub loop-cell-preserved : goal.loop-cell-preserved
+loop-cell-preserved c =
+    let ws = c.args.words.now in
+    let l : length ws ≡ 31 = search rules in
+    let k : length (take cells ws) ≡ cells = length-take-le cells ws (omega arith) in
+    rw c.loop-cell.invariant (filled-more is_set (take cells ws) _ c.loop-cell.cell 0 _ (omega arith) (omega arith) refl)
 
 pub returns : goal.returns
-returns c = c.loop-i.invariant.1 ∙ flagged-all c.args.words.now c.requires c.loop-i.i (search rules)
+unfolding flags_at
+returns c =
+    let ws = c.args.words.now in
+    let l : length ws ≡ 31 = search rules in
+    let k : length (take cells ws) ≡ cells = length-take-le cells ws (omega arith) in
+    c.loop-cell.invariant ∙ filled-whole is_set (take cells ws) _ c.loop-cell.cell (omega arith) (omega arith)

@@ -1,32 +1,24 @@
--- The first i words of the list are those of the first i levels, and the rest is as it was. The measure is what is left of them.
-use mathlib.Core.Path.{refl, ap, ◌∙◌}
-use mathlib.Core.List.{List}
+-- What is behind the loop is the levels of the words, packed.
+use mathlib.Core.Path.{◌≡◌, ap, sym, ◌∙◌}
+use mathlib.Core.List.{map, ◌++◌}
 use Prim.Native.Nat.{ℕ}
 use native.Mathlib.Omega.{arith}
-use lib.ListN.{set, length-set}
-use Rattle.klem_c.proofs.Packed.{pack-turn, packs-all}
+use lib.ListN.{length, drop, length-map, get_or-map}
+use Rattle.namespace.specs.Listing.{word_record}
+use Rattle.klem_c.specs.Levels.{packed_level}
+use Rattle.klem_c.proofs.Copies.{filled-more, filled-all}
 use Rattle.klem_c.proofs.levels.fill.Goals as goal
-
-pub loop-i-init : goal.loop-i-init
-loop-i-init c = (omega arith, refl, refl)
-
-pub bounds-list-i : goal.bounds-list-i
-bounds-list-i c = omega (arith, c.loop-i.invariant.2)
 
 pub loop-i-preserved : goal.loop-i-preserved
 loop-i-preserved c =
-    let a = c.args in
+    let ws = c.args.words.now in
     let i = c.loop-i.i in
-    let v = c.packed.result in (
-      omega arith,
-      ap (λ (l : List ℕ). set l i v) c.loop-i.invariant.1 ∙ pack-turn a.table.now a.at a.n c.requires.0 a.list.now i v (omega arith) c.requires.1 c.packed.ensures,
-      length-set c.loop-i.list i v ∙ c.loop-i.invariant.2,
-    )
-
-pub shape_of-list : goal.shape_of-list
-shape_of-list c = c.loop-i.invariant.2
+    let l : length (map word_record ws) ≡ length ws = length-map ws word_record in
+    rw c.loop-i.invariant (filled-more packed_level (map word_record ws) c.args.list.now i (word_record 0) _ (omega arith) (omega arith) (c.packed.ensures ∙ ap packed_level (sym (get_or-map word_record ws i 0))))
 
 pub returns : goal.returns
 returns c =
-    let a = c.args in
-    c.loop-i.invariant.1 ∙ packs-all a.table.now a.at a.n c.requires.0 a.list.now c.loop-i.i (omega arith) c.loop-i.invariant.0
+    let ws = c.args.words.now in
+    let l : length (map word_record ws) ≡ length ws = length-map ws word_record in
+    c.loop-i.invariant ∙ filled-all packed_level (map word_record ws) c.args.list.now c.loop-i.i (omega arith)
+    ∙ ap (λ (k : ℕ). map packed_level (map word_record ws) ++ drop k c.args.list.now) (let e : c.loop-i.i ≡ length ws = omega arith in e)

@@ -1,44 +1,29 @@
 -- 24, what the path is refused with, and then the levels from the one at the path down.
-use mathlib.Core.Path.{◌≡◌, sym}
-use lib.ListN.{length}
-use lib.Seq.{length-take-le}
+use mathlib.Core.Path.{sym}
 use Rattle.name_object.specs.Component.{component_limit}
+use Rattle.pkg_length.proofs.Answers.{residual_of}
 use Rattle.table.specs.Limits.{limits}
 use Rattle.namespace.specs.Calls.{settled_keys}
 use Rattle.namespace.specs.Levels.{records_from, levels_call}
-use Rattle.namespace.proofs.Calls.{call-given, call-refused}
-use Rattle.namespace.proofs.ListCalls.{keys-some, refused-listable, listable-at, listable-same}
-use borrow.Author.Rules.{rules}
-use native.Mathlib.Omega.{arith}
+use Rattle.namespace.specs.Listing.{Listable}
+use Rattle.namespace.proofs.Calls.{unformed, formed-at, call-given, call-refused}
+use Rattle.namespace.proofs.ListCalls.{stands-same}
 use Rattle.namespace.proofs.listing.start.Goals as goal
 
-pub slice_bounds-keys-end : goal.slice_bounds-keys-end
-slice_bounds-keys-end c =
-    let len : length c.keyed-found.result.keys ≡ component_limit = search rules in
-    omega (arith, (c.keyed-found.ensures.given c.in-Done.is).1.short)
+pub returns-in_err-table : goal.returns-in_err-table
+returns-in_err-table c =
+    residual_of (Listable c.args.table.now c.args.room (levels_call limits c.args.table.now c.args.path c.args.room)) c.from_residual.result c.in_err-table.field-0.0 c.from_residual.ensures
+    (unfold levels_call in sym (unformed limits c.args.table.now _ c.in_err-table.field-0.0 c.in_err-table.ensures))
 
-pub slice_bounds-below-end : goal.slice_bounds-below-end
-slice_bounds-below-end c =
-    let len : length c.keyed-found.result.keys ≡ component_limit = search rules in
-    sym (length-take-le c.keyed-found.result.count c.keyed-found.result.keys (omega (arith, (c.keyed-found.ensures.given c.in-Done.is).1.short)))
-
-pub below-requires : goal.below-requires
-below-requires c =
-    let g = c.keyed-found.ensures.given c.in-Done.is in
-    (g.0, g.1.keyed, keys-some component_limit c.args.path _ g.1.is)
-
-pub returns-in-Refused : goal.returns-in-Refused
+pub returns-in_err-settled : goal.returns-in_err-settled
 unfolding levels_call
-returns-in-Refused c =
-    let ws = c.args.table.now in
-    listable-at _ _ _ _ _ c.refused.ensures
-    (refused-listable ws c.args.room _ _
-    (sym (call-refused limits ws (settled_keys component_limit c.args.path) c.keyed-found.result c.keyed-found.ensures (records_from c.args.room) c.in-Refused.e c.in-Refused.is)))
+returns-in_err-settled c =
+    residual_of (Listable c.args.table.now c.args.room (levels_call limits c.args.table.now c.args.path c.args.room)) c.from_residual-in_err-settled.result c.in_err-settled.field-0.0 c.from_residual-in_err-settled.ensures
+    (sym (call-refused limits c.args.table.now (formed-at limits c.in_ok-table.table.words.now c.args.table.now c.in_ok-table.ensures c.in_ok-table.table.formed) (settled_keys component_limit c.args.path) (records_from c.args.room) _ _ c.in_err-settled.ensures))
 
-pub returns-in-Done : goal.returns-in-Done
+pub returns : goal.returns
 unfolding levels_call
-returns-in-Done c =
-    let ws = c.args.table.now in
-    listable-same ws c.args.room _ _ c.below.result
-    (call-given limits ws (settled_keys component_limit c.args.path) c.keyed-found.result c.keyed-found.ensures (records_from c.args.room) c.in-Done.is)
-    c.below.ensures
+returns c =
+    stands-same c.args.table.now c.args.room _ _ c.below.result
+    (call-given limits c.args.table.now (formed-at limits c.in_ok-table.table.words.now c.args.table.now c.in_ok-table.ensures c.in_ok-table.table.formed) (settled_keys component_limit c.args.path) (records_from c.args.room) c.in_ok-settled.field-0 c.in_ok-settled.ensures)
+    (rw c.in_ok-table.ensures at c.below.ensures)

@@ -1,6 +1,6 @@
 use mathlib.Core.Path.{◌≡◌}
 use mathlib.Core.List.{List}
-use Prim.Native.Nat.{◌+◌, ◌-◌, ◌≤◌}
+use Prim.Native.Nat.{◌+◌, ◌≤◌}
 use lib.ListN.{length, drop}
 use Rattle.name_object.specs.Component.{Component, component_limit}
 use Rattle.path.specs.Text.{reading, before}
@@ -11,7 +11,3 @@ abbrev pub invariant-loop-i : goal.invariant-loop-i
 invariant-loop-i l =
     (l.from ≤ l.i) × (l.i ≤ length l.text) × (l.s.count + l.s.chars ≤ l.i)
     × ((done : List Component) → l.initial.out ≡ shown component_limit done → l.from ≡ length done → OnWay component_limit l.out l.s l.i (drop l.i l.text) (after done (reading before l.from (drop l.from l.text))))
-
-abbrev pub decreases-loop-i : goal.decreases-loop-i
-decreases-loop-i l =
-    length l.text - l.i

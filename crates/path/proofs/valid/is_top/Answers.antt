@@ -1,7 +1,6 @@
 -- No component, or one whose first byte is the root's.
-use Rattle.path.specs.Inside.{name_in}
 use Rattle.path.proofs.Flags.{top-is}
 use Rattle.path.proofs.valid.is_top.Goals as goal
 
 pub returns : goal.returns
-returns c = top-is (name_in c.args.count c.args.bytes.now)
+returns c = top-is c.args.name.now

@@ -1,20 +1,19 @@
--- Whether the bytes before j were zero, and those from j on are.
-use mathlib.Core.Path.{refl, ◌∙◌}
+-- Whether the bytes passed were zero, and those to come are.
+use mathlib.Core.Path.{refl, ◌∙◌, ap}
+use Prim.Native.Nat.{◌-◌}
+use lib.Seq.{take_all}
+use lib.ListN.{drop, length-drop}
+use Rattle.name_object.specs.Memory.{all_zero}
 use Rattle.name_object.proofs.Zeros.{clean-turn, clean_end}
 use native.Mathlib.Omega.{arith}
 use Rattle.path.proofs.valid.is_zero_from.Goals as goal
 
-pub loop-j-init : goal.loop-j-init
-loop-j-init c = (omega arith, refl)
-
-pub loop-j-smaller : goal.loop-j-smaller
-loop-j-smaller c = omega arith
-
-pub loop-j-preserved : goal.loop-j-preserved
-loop-j-preserved c =
-    let l = c.loop-j in
-    (omega arith, clean-turn c.args.bytes.now l.j l.clean _ (omega (arith, c.requires.1)) refl ∙ l.invariant.1)
+pub loop-byte-preserved : goal.loop-byte-preserved
+loop-byte-preserved c = let l = c.loop-byte in clean-turn _ l.byte-index l.clean _ (omega arith) refl ∙ l.invariant
 
 pub returns : goal.returns
 returns c =
-    clean_end c.args.bytes.now c.loop-j.j c.loop-j.clean (omega (arith, c.requires.1)) ∙ c.loop-j.invariant.1
+    let l = c.loop-byte in
+    let bytes = c.args.bytes.now in
+    let from = c.args.from in
+    clean_end _ l.byte-index l.clean (omega arith) ∙ l.invariant ∙ ap all_zero (take_all (128 - from) (drop from bytes) (omega (arith, c.told-bytes, length-drop from bytes)))

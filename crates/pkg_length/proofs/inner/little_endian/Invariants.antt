@@ -1,8 +1,5 @@
 use Rattle.pkg_length.proofs.Laws.{Spelt}
 use Rattle.pkg_length.proofs.inner.little_endian.Given as goal
 
-abbrev pub invariant-loop-k : goal.invariant-loop-k
-invariant-loop-k l = Spelt l.input l.at l.n l.value l.k
-
-abbrev pub decreases-loop-k : goal.decreases-loop-k
-decreases-loop-k l = l.k
+abbrev pub invariant-loop-b : goal.invariant-loop-b
+invariant-loop-b l = Spelt l.fn.bytes l.b-iterator.iter.rest.now l.value

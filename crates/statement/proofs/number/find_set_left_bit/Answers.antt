@@ -1,9 +1,7 @@
 -- No low bit is set, or the zero count finds it (`left-found`).
-use lib.Count.{leading_le}
 use Rattle.statement.specs.Frames.{bits}
 use Rattle.statement.proofs.Numbers.{bits_most}
 use Rattle.statement.proofs.Finders.{left-none, left-found}
-use Rattle.std.proofs.Common.{rules}
 use Rattle.statement.proofs.number.find_set_left_bit.Goals as goal
 
 pub returns-then-m-eq0 : goal.returns-then-m-eq0
@@ -11,13 +9,7 @@ returns-then-m-eq0 c =
     let a = c.args in
     left-none a.n (bits a.w) c.wrapped-m.result c.wrapped-m.ensures c.if-m-eq0.true
 
-pub overflow_cast-result : goal.overflow_cast-result
-overflow_cast-result c = search (rules, leading_le 64 c.wrapped-m.result)
-
-pub overflow_sub-result : goal.overflow_sub-result
-overflow_sub-result c = search (rules, leading_le 64 c.wrapped-m.result)
-
 pub returns : goal.returns
 returns c =
     let a = c.args in
-    left-found a.n (bits a.w) c.wrapped-m.result c.wrapped-m.ensures 64 (bits_most a.w) c.if-m-eq0.false
+    rw c.from.ensures (left-found a.n (bits a.w) c.wrapped-m.result c.wrapped-m.ensures 64 (bits_most a.w) c.if-m-eq0.false)

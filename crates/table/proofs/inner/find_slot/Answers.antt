@@ -1,66 +1,31 @@
--- All before lo is smaller, and all from hi on is not: so where they meet the pass would stop.
-use mathlib.Core.Path.{◌≡◌, refl, ◌∙◌}
-use Prim.Native.Nat.{◌+◌, ◌-◌, ◌/◌, ◌^◌, ◌≤◌}
-use lib.ListN.{get_or}
-use Rattle.table.proofs.Slots.{slot-from, slot-here, slot-before, slot-end, halved, halved-up}
+-- The library's search by the words' segments.
+use mathlib.Core.Path.{◌≡◌, ap, sym, subst, ◌∙◌}
+use mathlib.Core.List.{map}
+use Prim.Native.Nat.{ℕ, ◌+◌, ◌-◌, ◌/◌, ◌^◌}
+use lib.ListN.{take, drop}
+use borrow.Author.Rules.{rules}
+use Rattle.std.specs.Prelude.{Ok}
+use Rattle.std.proofs.lemmas.List.Sorted.{answers_always}
+use Rattle.table.specs.Layout.{binding_of}
+use Rattle.table.specs.Inside.{slot_in, Rising}
+use Rattle.table.proofs.Slots.{slot-searched, slot-missed, own-rise}
 use native.Mathlib.Omega.{arith}
 use Rattle.table.proofs.inner.find_slot.Goals as goal
 
-pub loop-lo-init : goal.loop-lo-init
-loop-lo-init c =
-    (omega arith, omega arith, omega arith, λ i h k. absurd (omega arith), λ i h k. absurd (omega arith))
+long : (f n : ℕ) → f + n - f ≡ n
+long f n = omega arith
 
-pub loop-lo-preserved-then-bindings-mid : goal.loop-lo-preserved-then-bindings-mid
-loop-lo-preserved-then-bindings-mid c =
-    let pre = c.requires in
-    let l = c.loop-lo in
-    let a = c.args in (
-      omega arith,
-      omega arith,
-      omega arith,
-      λ i h k. halved a.bindings.now a.from a.n pre.1 a.seg i (l.lo + (l.hi - l.lo) / 2) h (omega arith) (omega (arith, l.invariant.2)) c.if-bindings-mid.true,
-      l.invariant.4,
-    )
-
-pub loop-lo-preserved : goal.loop-lo-preserved
-loop-lo-preserved c =
-    let pre = c.requires in
-    let l = c.loop-lo in
-    let a = c.args in (
-      omega arith,
-      omega arith,
-      omega (arith, l.invariant.2),
-      l.invariant.3,
-      λ i h k. halved-up a.bindings.now a.from a.n pre.1 a.seg (l.lo + (l.hi - l.lo) / 2) i (omega (arith, l.invariant.0)) h k c.if-bindings-mid.false,
-    )
-
-pub returns-then-end-lo : goal.returns-then-end-lo
-returns-then-end-lo c =
-    let pre = c.requires in
-    let l = c.loop-lo in
+pub returns-in-Ok : goal.returns-in-Ok
+returns-in-Ok c =
     let a = c.args in
-    let e : l.lo ≡ a.from + a.n = omega (arith, c.if-end-lo.true, l.invariant.1, l.invariant.2) in
-    rw e (slot-end a.seg (a.from + a.n) (a.from + a.n) a.bindings.now refl)
-    ∙ slot-from a.seg a.from a.n l.lo a.bindings.now l.invariant.0 (omega (arith, l.invariant.1, l.invariant.2)) pre.0 l.invariant.3
+    let own = own-rise a.bindings.now a.from (a.from + a.n - a.from) (omega (arith, c.requires.0)) (subst (λ (n : ℕ). Rising a.bindings.now a.from n) (sym (long a.from a.n)) c.requires.1) in
+    ap Ok c.handle.ensures
+    ∙ slot-searched a.seg a.from _ own c.in-Ok.i c.in-Ok.ensures.bound (c.in-Ok.ensures.position (λ w. w / 2 ^ 32) (answers_always _ _ _ (λ f a r g called. search rules)))
+    ∙ ap (λ (n : ℕ). slot_in a.seg (map binding_of (take n (drop a.from a.bindings.now))) a.from) (long a.from a.n)
 
-pub bounds-bindings-lo : goal.bounds-bindings-lo
-bounds-bindings-lo c =
-    let pre = c.requires in
-    omega (arith, c.if-end-lo.false, pre.0)
-
-pub returns-then-b-seg : goal.returns-then-b-seg
-returns-then-b-seg c =
-    let pre = c.requires in
-    let l = c.loop-lo in
+pub returns-in-Err : goal.returns-in-Err
+returns-in-Err c =
     let a = c.args in
-    slot-here a.seg l.lo (a.from + a.n) a.bindings.now c.if-end-lo.false pre.0 c.if-b-seg.true
-    ∙ slot-from a.seg a.from a.n l.lo a.bindings.now l.invariant.0 (omega (arith, l.invariant.1, l.invariant.2)) pre.0 l.invariant.3
-
-pub returns : goal.returns
-returns c =
-    let pre = c.requires in
-    let l = c.loop-lo in
-    let a = c.args in
-    let h : a.seg ≤ get_or a.bindings.now l.lo 0 / 2 ^ 32 = l.invariant.4 l.lo (omega arith) c.if-end-lo.false in
-    slot-before a.seg l.lo (a.from + a.n) a.bindings.now c.if-end-lo.false pre.0 c.if-b-seg.false (omega (arith, h, c.if-b-seg.false))
-    ∙ slot-from a.seg a.from a.n l.lo a.bindings.now l.invariant.0 (omega (arith, l.invariant.1, l.invariant.2)) pre.0 l.invariant.3
+    let own = own-rise a.bindings.now a.from (a.from + a.n - a.from) (omega (arith, c.requires.0)) (subst (λ (n : ℕ). Rising a.bindings.now a.from n) (sym (long a.from a.n)) c.requires.1) in
+    slot-missed a.seg a.from _ own c.in-Err.i c.in-Err.ensures.bound (c.in-Err.ensures.position (λ w. w / 2 ^ 32) (answers_always _ _ _ (λ f a r g called. search rules)))
+    ∙ ap (λ (n : ℕ). slot_in a.seg (map binding_of (take n (drop a.from a.bindings.now))) a.from) (long a.from a.n)

@@ -28,6 +28,3 @@ pub find_spot_in-requires : goal.find_spot_in-requires
 find_spot_in-requires c =
     let ws = c.args.table.now in
     (length-ls limits (omega arith) ws c.requires.0, c.if-path-le1.false, c.requires.1.short, bindings-held limits (omega arith) ws c.requires.0)
-
-pub returns : goal.returns
-returns c = c.find_spot_in.ensures

@@ -1,13 +1,9 @@
 use mathlib.Core.Path.{◌≡◌}
 use mathlib.Core.List.{◌++◌}
-use Prim.Native.Nat.{◌-◌, ◌≤◌}
 use lib.ListN.{length, take, drop}
 use Rattle.table.specs.Inside.{push}
 use Rattle.table.proofs.inner.make_room.Given as goal
 
-abbrev pub invariant-loop-i : goal.invariant-loop-i
-invariant-loop-i l =
-    (length l.xs ≡ length l.initial.xs) × (l.i ≤ length l.xs) × (take l.i l.xs ++ push l.c (drop l.i l.xs) ≡ take l.at l.initial.xs ++ push l.w (drop l.at l.initial.xs))
-
-abbrev pub decreases-loop-i : goal.decreases-loop-i
-decreases-loop-i l = length l.initial.xs - l.i
+abbrev pub invariant-loop-x : goal.invariant-loop-x
+invariant-loop-x l =
+    (length l.x-items ≡ length l.initial.x-items) × (take l.x-index l.x-items ++ push l.carried (drop l.x-index l.x-items) ≡ push l.w (drop l.at l.fn.xs))

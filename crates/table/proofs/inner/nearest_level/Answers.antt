@@ -1,66 +1,61 @@
 -- A scope whose level is not there holds none, and one whose level is there holds what its children do: so each turn leaves the innermost as it was.
 use mathlib.Core.Path.{◌≡◌, ap, sym, ◌∙◌}
-use Rattle.table.specs.Inside.{depth_of, deepest, level_held}
-use Rattle.table.proofs.Child.{reached-at, held-level, held_none, deepest-found, deepest-less, trail-levels}
+use mathlib.Core.Bool.{true, false}
+use mathlib.Core.List.{List}
+use Prim.Native.Nat.{ℕ, ◌+◌, ◌-◌, ◌<◌}
+use lib.ListN.{drop, get_or}
+use Rattle.std.specs.Prelude.{Result, Ok, Err}
+use Rattle.std.specs.Result.{is_ok}
+use Rattle.pkg_length.specs.Refusal.{gives, refuses}
+use Rattle.table.specs.Inside.{child_in, depth_of, deepest, level_held, Reached, start}
+use Rattle.table.specs.declared.inner.Place.{Place}
+use Rattle.table.proofs.Child.{held-level, held_none, deepest-found, deepest-on, trail-levels}
 use native.Mathlib.Omega.{arith}
 use Rattle.table.proofs.inner.nearest_level.Goals as goal
 
-pub loop-depth-init : goal.loop-depth-init
-loop-depth-init c =
+back : (n : ℕ) → 0 < n → n - 1 + 1 ≡ n
+back n h = omega arith
+
+-- what a level that is there holds, by whether the child was found
+module _ (ls p : List ℕ) (n at from : ℕ) (o : Reached ls p n at from) (s m : ℕ) where
+  with-child : (r : Result Place ℕ) → r ≡ child_in (n + 1) s (drop (at + 1) ls) (at + 1) m → is_ok r ≡ true → level_held ls p s n ≡ gives tt
+  with-child (Ok q) e h = held-level ls p n at from o s m q.level q.binding e
+  with-child (Err i) e h = absurd (cc)
+
+  without-child : (r : Result Place ℕ) → r ≡ child_in (n + 1) s (drop (at + 1) ls) (at + 1) m → is_ok r ≡ false → level_held ls p s n ≡ refuses 15 1
+  without-child (Ok q) e h = absurd (cc)
+  without-child (Err i) e h = held_none ls p n at from o s m i e
+
+pub loop-i-init : goal.loop-i-init
+loop-i-init c =
     let a = c.args in
-    let w = c.trail-depth in
-    (omega arith, trail-levels a.levels.now a.scope.now _ _ _ w.ensures a.seg)
+    trail-levels a.levels.now a.scope.now _ _ c.trail-there.ensures a.seg
 
-pub bounds-ats-depth : goal.bounds-ats-depth
-bounds-ats-depth c =
-    let w = c.trail-depth in
-    let pre = c.requires in
-    omega (arith, c.loop-depth.invariant.0, w.ensures.short, pre.1)
-
-pub overflow_add-at : goal.overflow_add-at
-overflow_add-at c =
-    let pre = c.requires in
+pub loop-i-preserved : goal.loop-i-preserved
+loop-i-preserved c =
     let a = c.args in
-    let w = c.trail-depth in
-    let l = c.loop-depth in
-    omega (arith, pre.0, (reached-at a.levels.now a.scope.now _ _ _ l.depth w.ensures (omega arith) l.invariant.0).inside)
+    let l = c.loop-i in
+    let q : Place = get_or c.trail-there.new.places (l.i - 1) start in
+    sym (deepest-on (level_held a.levels.now a.scope.now a.seg) (l.i - 1) 15 1
+    (without-child a.levels.now a.scope.now (l.i - 1 + 1) q.level q.binding (c.trail-there.ensures.there (l.i - 1) (omega arith)) a.seg 0 c.find_child.result c.find_child.ensures (sym c.is_ok.ensures.value ∙ c.if-is_ok.false)))
+    ∙ ap (deepest (level_held a.levels.now a.scope.now a.seg)) (back l.i c.loop-i-test.true)
+    ∙ l.invariant
 
-pub find_child-found-requires : goal.find_child-found-requires
-find_child-found-requires c =
-    let pre = c.requires in
-    let w = c.trail-depth in
-    (pre.0, omega arith, omega (arith, c.loop-depth.invariant.0, w.ensures.short, pre.1))
-
-pub returns-in-At : goal.returns-in-At
-returns-in-At c =
+pub returns-then-is_ok : goal.returns-then-is_ok
+returns-then-is_ok c =
     let a = c.args in
-    let w = c.trail-depth in
-    let f = c.find_child-found in
-    let l = c.loop-depth in
-    let o = reached-at a.levels.now a.scope.now _ _ _ l.depth w.ensures (omega arith) l.invariant.0 in
+    let l = c.loop-i in
+    let q : Place = get_or c.trail-there.new.places (l.i - 1) start in
     ap depth_of
-    (sym (deepest-found (level_held a.levels.now a.scope.now a.seg) l.depth tt (omega arith)
-    (held-level a.levels.now a.scope.now l.depth _ _ o a.seg 0 _ _
-    (sym c.in-At.is ∙ f.ensures)))
-    ∙ l.invariant.1)
-
-pub loop-depth-preserved : goal.loop-depth-preserved
-loop-depth-preserved c =
-    let a = c.args in
-    let w = c.trail-depth in
-    let f = c.find_child-found in
-    let l = c.loop-depth in
-    let o = reached-at a.levels.now a.scope.now _ _ _ l.depth w.ensures (omega arith) l.invariant.0 in (
-      omega (arith, l.invariant.0),
-      deepest-less (level_held a.levels.now a.scope.now a.seg) l.depth 15 1 (omega arith)
-          (held_none a.levels.now a.scope.now l.depth _ _ o a.seg 0 _
-          (sym c.in-Gone.is ∙ f.ensures)) ∙ l.invariant.1,
-    )
+    (sym (deepest-found (level_held a.levels.now a.scope.now a.seg) (l.i - 1 + 1) tt (omega arith)
+    (with-child a.levels.now a.scope.now (l.i - 1 + 1) q.level q.binding (c.trail-there.ensures.there (l.i - 1) (omega arith)) a.seg 0 c.find_child.result c.find_child.ensures (sym c.is_ok.ensures.value ∙ c.if-is_ok.true)))
+    ∙ ap (deepest (level_held a.levels.now a.scope.now a.seg)) (back l.i c.loop-i-test.true)
+    ∙ l.invariant)
 
 pub returns : goal.returns
 unfolding deepest
 returns c =
     let a = c.args in
-    let l = c.loop-depth in
-    let z : 0 ≡ l.depth = omega arith in
-    ap depth_of (ap (deepest (level_held a.levels.now a.scope.now a.seg)) z ∙ l.invariant.1)
+    let l = c.loop-i in
+    let z : 0 ≡ l.i = omega arith in
+    ap depth_of (ap (deepest (level_held a.levels.now a.scope.now a.seg)) z ∙ l.invariant)

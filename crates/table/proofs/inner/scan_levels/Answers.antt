@@ -1,64 +1,77 @@
 -- What is left of the pass decides as the whole pass does.
-use mathlib.Core.Path.{refl, sym, ◌∙◌}
-use lib.ListN.{drop, get_or, length-set}
+use mathlib.Core.Path.{refl, ap, sym, ◌∙◌}
+use mathlib.Core.Bool.{◌&&◌}
+use Prim.Native.Nat.{ℕ, ◌+◌}
+use lib.ListN.{drop, get_or, set, length-set}
 use Rattle.name_object.specs.Component.{component_limit}
-use Rattle.table.specs.Inside.{lowest, below}
+use Rattle.name_object.specs.Memory.{all_zero}
+use Rattle.table.specs.Inside.{scan, lowest, below}
+use Rattle.table.proofs.Facts.{tail-whole}
 use Rattle.table.proofs.Turns.{passed, turn-zero, turn-unfit, turn-pass, turn_end}
 use native.Mathlib.Omega.{arith}
 use Rattle.table.proofs.inner.scan_levels.Goals as goal
 
 pub loop-k-init : goal.loop-k-init
-loop-k-init c = unfold lowest in (refl, omega arith, omega arith, omega arith, refl)
+loop-k-init c = unfold lowest in (refl, omega arith, refl)
 
-pub returns-then-rest_zero : goal.returns-then-rest_zero
-returns-then-rest_zero c =
+pub returns-then-all_spare : goal.returns-then-all_spare
+returns-then-all_spare c =
     let l = c.loop-k in
     let a = c.args in
-    c.rest_zero-then-rest_zero.ensures ∙ sym (turn-zero component_limit (below a.made) l.p l.low a.levels.now l.k a.bindings.now l.m (omega arith) c.if-w-eq0.true ∙ rw (sym c.rest_zero.ensures ∙ c.if-rest_zero.true)) ∙ l.invariant.4
+    c.all_spare-then-all_spare.ensures
+    ∙ sym (turn-zero component_limit (below a.made) l.p l.low a.levels.now l.k l.left.now (omega arith) c.if-w-eq0.true
+    ∙ ap (λ b. b && all_zero l.left.now) (sym (ap all_zero (tail-whole (l.k + 1) a.levels.now)) ∙ sym c.all_spare.ensures ∙ c.if-all_spare.true)) ∙ l.invariant.2
 
-pub returns-then-w-eq0 : goal.returns-then-w-eq0
-returns-then-w-eq0 c =
+pub returns-else-all_spare : goal.returns-else-all_spare
+returns-else-all_spare c =
     let l = c.loop-k in
     let a = c.args in
-    sym (turn-zero component_limit (below a.made) l.p l.low a.levels.now l.k a.bindings.now l.m (omega arith) c.if-w-eq0.true ∙ rw (sym c.rest_zero.ensures ∙ c.if-rest_zero.false)) ∙ l.invariant.4
+    c.if-all_spare.false
+    ∙ sym (turn-zero component_limit (below a.made) l.p l.low a.levels.now l.k l.left.now (omega arith) c.if-w-eq0.true
+    ∙ ap (λ b. b && all_zero l.left.now) (sym (ap all_zero (tail-whole (l.k + 1) a.levels.now)) ∙ sym c.all_spare.ensures ∙ c.if-all_spare.false)) ∙ l.invariant.2
 
-pub offset_bounds-low-p : goal.offset_bounds-low-p
-offset_bounds-low-p c = omega (arith, passed component_limit (below c.args.made) c.loop-k.p c.loop-k.low (get_or c.args.levels.now c.loop-k.k 0) c.loop-k.m c.args.bindings.now (sym c.record_fits.ensures ∙ c.if-record_fits.true))
+pub returns-then-not-record_fits : goal.returns-then-not-record_fits
+returns-then-not-record_fits c =
+    let l = c.loop-k in
+    let a = c.args in
+    sym (turn-unfit component_limit (below a.made) l.p l.low a.levels.now l.k l.left.now (omega arith) c.if-w-eq0.false (sym c.record_fits.ensures ∙ c.if-not-record_fits.true)) ∙ l.invariant.2
 
 pub bounds-low-p : goal.bounds-low-p
-bounds-low-p c = omega (arith, passed component_limit (below c.args.made) c.loop-k.p c.loop-k.low (get_or c.args.levels.now c.loop-k.k 0) c.loop-k.m c.args.bindings.now (sym c.record_fits.ensures ∙ c.if-record_fits.true))
-
-pub overflow_add-low-then-record_fits : goal.overflow_add-low-then-record_fits
-overflow_add-low-then-record_fits c = omega (arith, passed component_limit (below c.args.made) c.loop-k.p c.loop-k.low (get_or c.args.levels.now c.loop-k.k 0) c.loop-k.m c.args.bindings.now (sym c.record_fits.ensures ∙ c.if-record_fits.true))
-
-pub offset_bounds-low-p-then-record_fits : goal.offset_bounds-low-p-then-record_fits
-offset_bounds-low-p-then-record_fits c = omega (arith, passed component_limit (below c.args.made) c.loop-k.p c.loop-k.low (get_or c.args.levels.now c.loop-k.k 0) c.loop-k.m c.args.bindings.now (sym c.record_fits.ensures ∙ c.if-record_fits.true))
-
-pub bounds-low-p-then-record_fits : goal.bounds-low-p-then-record_fits
-bounds-low-p-then-record_fits c = omega (arith, passed component_limit (below c.args.made) c.loop-k.p c.loop-k.low (get_or c.args.levels.now c.loop-k.k 0) c.loop-k.m c.args.bindings.now (sym c.record_fits.ensures ∙ c.if-record_fits.true))
-
-pub overflow_add-m : goal.overflow_add-m
-overflow_add-m c = omega (arith, passed component_limit (below c.args.made) c.loop-k.p c.loop-k.low (get_or c.args.levels.now c.loop-k.k 0) c.loop-k.m c.args.bindings.now (sym c.record_fits.ensures ∙ c.if-record_fits.true))
-
-pub returns-else-record_fits : goal.returns-else-record_fits
-returns-else-record_fits c =
+bounds-low-p c =
     let l = c.loop-k in
-    let a = c.args in
-    sym (turn-unfit component_limit (below a.made) l.p l.low a.levels.now l.k a.bindings.now l.m (omega arith) c.if-w-eq0.false (sym c.record_fits.ensures ∙ c.if-record_fits.false)) ∙ l.invariant.4
+    omega (arith, c.rank-p.ensures, passed component_limit (below c.args.made) l.p l.low (get_or c.args.levels.now l.k 0) l.left.now (sym c.record_fits.ensures ∙ c.if-not-record_fits.false))
+
+pub bounds-low-p-in-loop-k : goal.bounds-low-p-in-loop-k
+bounds-low-p-in-loop-k c =
+    let l = c.loop-k in
+    omega (arith, c.rank-p.ensures, passed component_limit (below c.args.made) l.p l.low (get_or c.args.levels.now l.k 0) l.left.now (sym c.record_fits.ensures ∙ c.if-not-record_fits.false))
+
+pub slice_bounds-left-count : goal.slice_bounds-left-count
+slice_bounds-left-count c =
+    let l = c.loop-k in
+    omega (arith, c.count.ensures, passed component_limit (below c.args.made) l.p l.low (get_or c.args.levels.now l.k 0) l.left.now (sym c.record_fits.ensures ∙ c.if-not-record_fits.false))
+
+pub slice_bounds-left-start : goal.slice_bounds-left-start
+slice_bounds-left-start c =
+    let l = c.loop-k in
+    omega (arith, c.count.ensures, passed component_limit (below c.args.made) l.p l.low (get_or c.args.levels.now l.k 0) l.left.now (sym c.record_fits.ensures ∙ c.if-not-record_fits.false))
 
 pub loop-k-preserved : goal.loop-k-preserved
 loop-k-preserved c =
     let l = c.loop-k in
-    let a = c.args in (
+    let a = c.args in
+    let fits = sym c.record_fits.ensures ∙ c.if-not-record_fits.false in
+    let r = c.rank-p.ensures in
+    let s = c.segment.ensures in
+    let rest = tail-whole c.count.result l.left.now ∙ ap (λ (n : ℕ). drop n l.left.now) c.count.ensures in (
       simp length-set l.invariant.0,
-      (passed component_limit (below c.args.made) c.loop-k.p c.loop-k.low (get_or c.args.levels.now c.loop-k.k 0) c.loop-k.m c.args.bindings.now (sym c.record_fits.ensures ∙ c.if-record_fits.true)).rank,
-      omega arith,
-      omega (arith, passed component_limit (below c.args.made) c.loop-k.p c.loop-k.low (get_or c.args.levels.now c.loop-k.k 0) c.loop-k.m c.args.bindings.now (sym c.record_fits.ensures ∙ c.if-record_fits.true)),
-      sym (turn-pass component_limit (below a.made) l.p l.low a.levels.now l.k a.bindings.now l.m (omega arith) c.if-w-eq0.false (sym c.record_fits.ensures ∙ c.if-record_fits.true)) ∙ l.invariant.4,
+      omega (arith, r, passed component_limit (below a.made) l.p l.low (get_or a.levels.now l.k 0) l.left.now fits),
+      (λ i. scan component_limit (below a.made) (r i) (set (set l.low (r i) (s i + 1)) (r i + 1) 0) (drop (l.k + 1) a.levels.now) (rest i))
+          ∙ sym (turn-pass component_limit (below a.made) l.p l.low a.levels.now l.k l.left.now (omega arith) c.if-w-eq0.false fits) ∙ l.invariant.2,
     )
 
 pub returns : goal.returns
 returns c =
     let l = c.loop-k in
     let a = c.args in
-    c.rest_zero-2.ensures ∙ sym (turn_end component_limit (below a.made) l.p l.low a.levels.now l.k (drop l.m a.bindings.now) (omega arith)) ∙ l.invariant.4
+    c.all_spare-2.ensures ∙ sym (turn_end component_limit (below a.made) l.p l.low a.levels.now l.k l.left.now (omega arith)) ∙ l.invariant.2

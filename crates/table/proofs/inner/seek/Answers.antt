@@ -1,8 +1,7 @@
 -- The first keys lead to where the next is looked for; its child is there, or the path ends where it is not.
 use mathlib.Core.Path.{refl, ◌∙◌}
 use Rattle.table.specs.Inside.{counts}
-use Rattle.table.proofs.Passes.{counts-low}
-use Rattle.table.proofs.Child.{cursor-start, cursor-low, found_inside, found_from, cursor-turn, placed-gone, cursor-end}
+use Rattle.table.proofs.Child.{cursor-start, cursor-low, cursor-step, placed-gone, cursor-end}
 use native.Mathlib.Omega.{arith}
 use Rattle.table.proofs.inner.seek.Goals as goal
 
@@ -12,73 +11,35 @@ loop-j-init c =
     let a = c.args in
     (cursor-start a.levels.now a.path.now, refl)
 
-pub find_child-found-requires : goal.find_child-found-requires
-find_child-found-requires c =
+pub find_child-requires : goal.find_child-requires
+find_child-requires c =
     let pre = c.requires in
     let a = c.args in
     let l = c.loop-j in
-    (pre.0, cursor-low a.levels.now a.path.now l.j l.at l.k l.m l.invariant.0, omega (arith, pre.1))
+    (pre.0, l.invariant.0.within, cursor-low a.levels.now a.path.now l.j l.here.level l.next.level l.next.binding l.invariant.0, omega (arith, pre.1))
 
-pub returns-in-Gone : goal.returns-in-Gone
-returns-in-Gone c =
+pub returns-in-Err : goal.returns-in-Err
+returns-in-Err c =
     let a = c.args in
-    let f = c.find_child-found in
+    let f = c.find_child in
     let l = c.loop-j in
     c.gone_at.ensures
-    ∙ placed-gone a.levels.now a.path.now l.j l.at l.k l.m l.invariant.0 (omega arith) f.result f.ensures c.in-Gone.i c.in-Gone.is
+    ∙ placed-gone a.levels.now a.path.now l.j l.here.level l.next.level l.next.binding l.invariant.0 (omega arith) f.result f.ensures c.in-Err.k c.in-Err.is
 
-pub offset_bounds-levels-i : goal.offset_bounds-levels-i
-offset_bounds-levels-i c =
-    let a = c.args in
-    let f = c.find_child-found in
+pub behind-next-requires : goal.behind-next-requires
+behind-next-requires c =
     let l = c.loop-j in
-    omega (arith, found_inside a.levels.now a.path.now l.j l.at l.k l.m l.invariant.0 (omega arith) f.result f.ensures c.in-At.i c.in-At.n c.in-At.is)
-
-pub bounds-levels-i : goal.bounds-levels-i
-bounds-levels-i c =
-    let a = c.args in
-    let f = c.find_child-found in
-    let l = c.loop-j in
-    found_inside a.levels.now a.path.now l.j l.at l.k l.m l.invariant.0 (omega arith) f.result f.ensures c.in-At.i c.in-At.n c.in-At.is
-
-pub overflow_add-m : goal.overflow_add-m
-overflow_add-m c =
-    let pre = c.requires in
-    let a = c.args in
-    let f = c.find_child-found in
-    let l = c.loop-j in
-    let i = c.in-At.i in
-    omega (
-      arith,
-      pre.0,
-      counts-low a.levels.now i,
-      found_inside a.levels.now a.path.now l.j l.at l.k l.m l.invariant.0 (omega arith) f.result f.ensures i c.in-At.n c.in-At.is,
-      found_from a.levels.now a.path.now l.j l.at l.k l.m l.invariant.0 (omega arith) f.result f.ensures i c.in-At.n c.in-At.is,
-    )
-
-pub overflow_add-k : goal.overflow_add-k
-overflow_add-k c =
-    let pre = c.requires in
-    let a = c.args in
-    let f = c.find_child-found in
-    let l = c.loop-j in
-    omega (
-      arith,
-      pre.0,
-      found_inside a.levels.now a.path.now l.j l.at l.k l.m l.invariant.0 (omega arith) f.result f.ensures c.in-At.i c.in-At.n c.in-At.is,
-    )
+    let step = cursor-step c.args.levels.now c.args.path.now l.j l.here.level l.next l.invariant.0 (omega arith) _ c.find_child.ensures _ c.in-Ok.is in
+    (step.reached.inside, c.requires.0, step.low)
 
 pub loop-j-preserved : goal.loop-j-preserved
 loop-j-preserved c =
-    let a = c.args in
-    let f = c.find_child-found in
-    let l = c.loop-j in (
-      cursor-turn a.levels.now a.path.now l.j l.at l.k l.m l.invariant.0 (omega arith) f.result f.ensures c.in-At.i c.in-At.n c.in-At.is,
-      found_from a.levels.now a.path.now l.j l.at l.k l.m l.invariant.0 (omega arith) f.result f.ensures c.in-At.i c.in-At.n c.in-At.is,
-    )
+    let l = c.loop-j in
+    let step = cursor-step c.args.levels.now c.args.path.now l.j l.here.level l.next l.invariant.0 (omega arith) _ c.find_child.ensures _ c.in-Ok.is in
+    (step.on _ c.behind-next.ensures, step.reached.counted)
 
 pub returns : goal.returns
 returns c =
     let a = c.args in
     let l = c.loop-j in
-    cursor-end a.levels.now a.path.now l.j l.at l.k l.m l.from l.invariant.0 (omega arith) l.invariant.1
+    cursor-end a.levels.now a.path.now l.j l.here.level l.next.level l.next.binding l.here.binding l.invariant.0 (omega arith) l.invariant.1

@@ -1,0 +1,41 @@
+-- What the layer below promises of the part from the length on, with its place moved: a refusal is 1 or 2, and a length that was read fits the part.
+use Rattle.std.proofs.Common.{◌≡◌, ap, arith}
+use Rattle.pkg_length.specs.Refusal.{paper}
+use Rattle.pkg_length.specs.declared.AmlError.{AmlError}
+use Rattle.grammar.proofs.Packages.{package-no, package-other, package-early, package-yes}
+use Rattle.grammar.proofs.unread.Unread.pkg.Goals as goal
+
+pub returns-then-raw-used : goal.returns-then-raw-used
+returns-then-raw-used c = let u = c.args.self in package-early u.bytes.now (omega (arith, u.short)) u.place _ c.in-Ok.ensures c.if-raw-used.true
+
+pub returns-else-raw-used : goal.returns-else-raw-used
+returns-else-raw-used c = let u = c.args.self in package-yes u.bytes.now (omega (arith, u.short)) u.place _ c.in-Ok.ensures c.if-raw-used.false
+
+pub overflow_add-result : goal.overflow_add-result
+overflow_add-result c =
+    let u = c.args.self in
+    let k = package-no u.bytes.now (omega (arith, u.short)) u.place _ c.in-Err.ensures in
+    let i : (paper c.in-Err.e).1 ≡ c.in-UnexpectedEndOfStream.end = ap (λ (x : AmlError). (paper x).1) c.in-UnexpectedEndOfStream.is in
+    omega (arith, k.1, i, u.short)
+
+pub overflow_add-result-in-InvalidPkgLength : goal.overflow_add-result-in-InvalidPkgLength
+overflow_add-result-in-InvalidPkgLength c =
+    let u = c.args.self in
+    let k = package-no u.bytes.now (omega (arith, u.short)) u.place _ c.in-Err.ensures in
+    let i : (paper c.in-Err.e).1 ≡ c.in-InvalidPkgLength.lead = ap (λ (x : AmlError). (paper x).1) c.in-InvalidPkgLength.is in
+    omega (arith, k.1, i, u.short)
+
+pub returns-in-UnexpectedEndOfStream : goal.returns-in-UnexpectedEndOfStream
+returns-in-UnexpectedEndOfStream c =
+    let u = c.args.self in
+    rw c.in-UnexpectedEndOfStream.is at (package-no u.bytes.now (omega (arith, u.short)) u.place _ c.in-Err.ensures).0
+
+pub returns-in-InvalidPkgLength : goal.returns-in-InvalidPkgLength
+returns-in-InvalidPkgLength c =
+    let u = c.args.self in
+    rw c.in-InvalidPkgLength.is at (package-no u.bytes.now (omega (arith, u.short)) u.place _ c.in-Err.ensures).0
+
+pub returns-in_default : goal.returns-in_default
+returns-in_default c =
+    let u = c.args.self in
+    package-other u.bytes.now (omega (arith, u.short)) u.place _ c.in-Err.ensures c.in_default.not-UnexpectedEndOfStream c.in_default.not-InvalidPkgLength

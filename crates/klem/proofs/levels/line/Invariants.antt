@@ -1,7 +1,0 @@
--- `line` is safe: each callee tests its places.
--- What is left of the depth falls with each turn.
-use Rattle.std.proofs.Common.{◌-◌}
-use Rattle.klem.proofs.levels.line.Given as goal
-
-abbrev pub decreases-loop-i : goal.decreases-loop-i
-decreases-loop-i l = l.depth - l.i

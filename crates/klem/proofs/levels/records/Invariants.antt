@@ -1,7 +1,0 @@
--- `records` is safe: each callee tests its places.
--- What is left of the records falls with each turn.
-use Rattle.std.proofs.Common.{◌-◌}
-use Rattle.klem.proofs.levels.records.Given as goal
-
-abbrev pub decreases-loop-i : goal.decreases-loop-i
-decreases-loop-i l = l.n - l.i
