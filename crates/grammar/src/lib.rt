@@ -12,6 +12,9 @@ mod unread;
 
 use unread::Unread;
 
+// How deep statements nest, and terms.
+pub const DEPTH: usize = 16;
+
 // Whether a block is well formed: the grammar derives it, within the limits.
 pub fn check(block: &[u8]) -> Result<(), AmlError>
     ensures { Checked block.now result }
@@ -23,5 +26,5 @@ pub fn check(block: &[u8]) -> Result<(), AmlError>
         bytes: block,
         place: 0,
     };
-    whole.term_list(16)
+    whole.term_list(DEPTH)
 }

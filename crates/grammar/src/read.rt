@@ -4,16 +4,17 @@ ghost use Rattle.pkg_length.specs.Refusal.{said};
 ghost use Rattle.grammar.specs.Reader.{read_package, read_head, read_else, read_if, read_stmt, read_list};
 ghost use Rattle.grammar.specs.Said.{read_by, read_through};
 
-use crate::opcode;
 use crate::opcode::StmtOp;
 use crate::unread::Unread;
+use crate::{DEPTH, opcode};
 use pkg_length::{AmlError, Pkg, Raw};
 
 impl<'a> Unread<'a> {
     // A package length, by the layer below: the place of its refusal counts from here. A package holds its own length's bytes.
-    fn pkg(self) -> Result<Raw, AmlError>
-        ensures { said result ≡ read_package self.entry.place self.entry.bytes.now }
+    fn pkg(&self) -> Result<Raw, AmlError>
+        ensures { said result ≡ read_package self.now.place self.now.bytes.now }
     {
+        // By match: `map_err` would take the same cases in a closure over the place, and be no plainer.
         match pkg_length::pkg_length(self.bytes) {
             Ok(Pkg { length_read, used }) => {
                 let raw = length_read.raw_length;
@@ -35,10 +36,10 @@ impl<'a> Unread<'a> {
     // A part's statements, to its end.
     #[tactic(auto, using(crate::proofs::Reaches::stmt_in, crate::proofs::Reaches::list_more, crate::proofs::Reaches::list_stop, crate::proofs::Reaches::list_end, pkg_length::proofs::Answers::residual))]
     #[cycle(statements)]
-    pub(crate) fn term_list(self, left: usize) -> Result<(), AmlError>
-        ensures { said result ≡ read_through (read_list left self.entry.place self.entry.bytes.now) }
+    pub(crate) fn term_list(&self, left: usize) -> Result<(), AmlError>
+        ensures { said result ≡ read_through (read_list left self.now.place self.now.bytes.now) }
     {
-        let mut rest = self;
+        let mut rest = *self;
         // No `for`: a statement takes as many bytes as it needs, so nothing counts the turns before they are over.
         while !rest.bytes.is_empty() {
             let behind = rest.statement_opcode(left)?;
@@ -49,19 +50,24 @@ impl<'a> Unread<'a> {
 
     #[tactic(auto, unfolding(crate::specs::Reader::read_stmt))]
     #[cycle(statements)]
-    fn statement_opcode(self, left: usize) -> Result<usize, AmlError>
-        requires { 0 < length self.bytes.now }
-        ensures { said result ≡ read_by (read_stmt left) self.entry }
+    fn statement_opcode(&self, left: usize) -> Result<usize, AmlError>
+        requires { 0 < length self.now.bytes.now }
+        ensures { said result ≡ read_by (read_stmt left) self.now }
     {
         if left == 0 {
             return Err(AmlError::TooDeep(self.place));
         }
+        // One part, whose place on the stack each arm uses.
+        let mut part = self.next();
         match opcode::stmt_op(self.bytes[0]) {
             StmtOp::Simple(_) => Ok(self.place + 1),
-            StmtOp::Return => self.next().term_arg(16),
-            StmtOp::If => self.next().def_if_else(left - 1),
-            StmtOp::While => self.next().predicate_and_body(left - 1),
-            StmtOp::Expr => self.term_arg(16),
+            StmtOp::Return => part.term_arg(DEPTH),
+            StmtOp::If => part.def_if_else(left - 1),
+            StmtOp::While => part.predicate_and_body(left - 1),
+            StmtOp::Expr => {
+                part = *self;
+                part.term_arg(DEPTH)
+            }
             StmtOp::BadStmt => Err(AmlError::BadOpcode(self.place)),
         }
     }
@@ -70,24 +76,26 @@ impl<'a> Unread<'a> {
     // package's end, it needed the byte there.
     #[tactic(auto, using(crate::proofs::Reaches::package_within, crate::proofs::Reaches::term_in, crate::proofs::Reaches::head_no_package, pkg_length::proofs::Answers::residual))]
     #[cycle(statements)]
-    fn predicate_and_body(self, left: usize) -> Result<usize, AmlError>
-        ensures { said result ≡ read_by (read_head (read_list left)) self.entry }
+    fn predicate_and_body(&self, left: usize) -> Result<usize, AmlError>
+        ensures { said result ≡ read_by (read_head (read_list left)) self.now }
     {
         let package = self.pkg()?;
         let end = self.place + package.raw;
-        let body = self.onward(self.place + package.used).term_arg(16)?;
+        let mut part = self.onward(self.place + package.used);
+        let body = part.term_arg(DEPTH)?;
         if end < body {
             return Err(AmlError::PackageEndsEarly(end));
         }
-        self.body(body, end).term_list(left)?;
+        part = self.body(body, end);
+        part.term_list(left)?;
         Ok(end)
     }
 
     // An If from its package on.
     #[tactic(auto, using(crate::proofs::Reaches::head_in, crate::proofs::Reaches::stops, pkg_length::proofs::Answers::residual), unfolding(crate::specs::Reader::read_if))]
     #[cycle(statements)]
-    fn def_if_else(self, left: usize) -> Result<usize, AmlError>
-        ensures { said result ≡ read_by (read_if (read_list left)) self.entry }
+    fn def_if_else(&self, left: usize) -> Result<usize, AmlError>
+        ensures { said result ≡ read_by (read_if (read_list left)) self.now }
     {
         let behind = self.predicate_and_body(left)?;
         self.onward(behind).def_else(left)
@@ -96,8 +104,8 @@ impl<'a> Unread<'a> {
     // What follows an If's package: an else, or nothing.
     #[tactic(auto, using(crate::proofs::Reaches::package_within, crate::proofs::Reaches::else_no_package, pkg_length::proofs::Answers::residual), unfolding(crate::specs::Reader::read_else))]
     #[cycle(statements)]
-    fn def_else(self, left: usize) -> Result<usize, AmlError>
-        ensures { said result ≡ read_by (read_else (read_list left)) self.entry }
+    fn def_else(&self, left: usize) -> Result<usize, AmlError>
+        ensures { said result ≡ read_by (read_else (read_list left)) self.now }
     {
         let [first, ..] = self.bytes else {
             return Ok(self.place);

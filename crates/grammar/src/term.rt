@@ -11,8 +11,8 @@ use pkg_length::AmlError;
 
 impl<'a> Unread<'a> {
     // A constant's n bytes.
-    fn constant(self, n: usize) -> Result<usize, AmlError>
-        ensures { said result ≡ read_by (read_bytes n) self.entry }
+    fn constant(&self, n: usize) -> Result<usize, AmlError>
+        ensures { said result ≡ read_by (read_bytes n) self.now }
     {
         if self.bytes.len() < n {
             return Err(AmlError::UnexpectedEndOfStream(self.place + self.bytes.len()));
@@ -21,9 +21,10 @@ impl<'a> Unread<'a> {
     }
 
     // A written cell.
-    fn cell(self) -> Result<usize, AmlError>
-        ensures { said result ≡ read_by read_place self.entry }
+    fn cell(&self) -> Result<usize, AmlError>
+        ensures { said result ≡ read_by read_place self.now }
     {
+        // By pattern, here and twice below: a method that gives the byte or 1 would have to promise besides that the part is not empty, as `next` asks.
         let [first, ..] = self.bytes else {
             return Err(AmlError::UnexpectedEndOfStream(self.place));
         };
@@ -34,8 +35,8 @@ impl<'a> Unread<'a> {
     }
 
     // Where an operator's result goes.
-    fn dest(self, d: Dest) -> Result<usize, AmlError>
-        ensures { said result ≡ read_by (read_dest d) self.entry }
+    fn dest(&self, d: Dest) -> Result<usize, AmlError>
+        ensures { said result ≡ read_by (read_dest d) self.now }
     {
         match d {
             Dest::Nowhere => Ok(self.place),
@@ -44,8 +45,8 @@ impl<'a> Unread<'a> {
         }
     }
 
-    fn target(self) -> Result<usize, AmlError>
-        ensures { said result ≡ read_by read_target self.entry }
+    fn target(&self) -> Result<usize, AmlError>
+        ensures { said result ≡ read_by read_target self.now }
     {
         let [first, ..] = self.bytes else {
             return Err(AmlError::UnexpectedEndOfStream(self.place));
@@ -58,8 +59,8 @@ impl<'a> Unread<'a> {
 
     #[tactic(auto, unfolding(crate::specs::Reader::read_term))]
     #[cycle(terms)]
-    pub(crate) fn term_arg(self, left: usize) -> Result<usize, AmlError>
-        ensures { said result ≡ read_by (read_term left) self.entry }
+    pub(crate) fn term_arg(&self, left: usize) -> Result<usize, AmlError>
+        ensures { said result ≡ read_by (read_term left) self.now }
     {
         if left == 0 {
             return Err(AmlError::TooDeep(self.place));
@@ -67,12 +68,14 @@ impl<'a> Unread<'a> {
         let [first, ..] = self.bytes else {
             return Err(AmlError::UnexpectedEndOfStream(self.place));
         };
+        // Made once: each would take its own room on the stack, at every depth.
+        let behind = self.next();
         match opcode::term_op(*first) {
             TermOp::Constant(_) | TermOp::Cell(_) => Ok(self.place + 1),
-            TermOp::Bytes(n) => self.next().constant(n),
-            TermOp::Step(_) => self.next().cell(),
-            TermOp::One(_, d) => self.next().one(left - 1, d),
-            TermOp::Two(_, d) => self.next().two(left - 1, d),
+            TermOp::Bytes(n) => behind.constant(n),
+            TermOp::Step(_) => behind.cell(),
+            TermOp::One(_, d) => behind.one(left - 1, d),
+            TermOp::Two(_, d) => behind.two(left - 1, d),
             TermOp::BadTerm => Err(AmlError::BadOpcode(self.place)),
         }
     }
@@ -80,8 +83,8 @@ impl<'a> Unread<'a> {
     // An operand, and where the result goes.
     #[tactic(auto, using(crate::proofs::Reaches::term_in, crate::proofs::Reaches::stops, pkg_length::proofs::Answers::residual), unfolding(crate::specs::Reader::read_one))]
     #[cycle(terms)]
-    fn one(self, left: usize, d: Dest) -> Result<usize, AmlError>
-        ensures { said result ≡ read_by (read_one (read_term left) d) self.entry }
+    fn one(&self, left: usize, d: Dest) -> Result<usize, AmlError>
+        ensures { said result ≡ read_by (read_one (read_term left) d) self.now }
     {
         let behind = self.term_arg(left)?;
         self.onward(behind).dest(d)
@@ -90,8 +93,8 @@ impl<'a> Unread<'a> {
     // An operand before that. It is like `one`, and `def_if_else`, in its words alone: one function for the three would take both readers, and be no shorter.
     #[tactic(auto, using(crate::proofs::Reaches::term_in, crate::proofs::Reaches::stops, pkg_length::proofs::Answers::residual), unfolding(crate::specs::Reader::read_two))]
     #[cycle(terms)]
-    fn two(self, left: usize, d: Dest) -> Result<usize, AmlError>
-        ensures { said result ≡ read_by (read_two (read_term left) d) self.entry }
+    fn two(&self, left: usize, d: Dest) -> Result<usize, AmlError>
+        ensures { said result ≡ read_by (read_two (read_term left) d) self.now }
     {
         let behind = self.term_arg(left)?;
         self.onward(behind).one(left, d)

@@ -12,10 +12,10 @@ pub(crate) struct Unread<'a> {
 
 impl<'a> Unread<'a> {
     // Behind the next byte.
-    pub(crate) fn next(self) -> Unread<'a>
-        requires { 1 ≤ length self.bytes.now }
-        ensures place { result.place ≡ self.entry.place + 1 }
-        ensures bytes { result.bytes.now ≡ drop 1 self.entry.bytes.now }
+    pub(crate) fn next(&self) -> Unread<'a>
+        requires { 1 ≤ length self.now.bytes.now }
+        ensures place { result.place ≡ self.now.place + 1 }
+        ensures bytes { result.bytes.now ≡ drop 1 self.now.bytes.now }
     {
         Unread {
             bytes: &self.bytes[1..],
@@ -24,10 +24,10 @@ impl<'a> Unread<'a> {
     }
 
     // From a place on, to the end of the part.
-    pub(crate) fn onward(self, place: usize) -> Unread<'a>
-        requires { (self.place ≤ place) × (place ≤ self.place + length self.bytes.now) }
+    pub(crate) fn onward(&self, place: usize) -> Unread<'a>
+        requires { (self.now.place ≤ place) × (place ≤ self.now.place + length self.now.bytes.now) }
         ensures place { result.place ≡ place }
-        ensures bytes { result.bytes.now ≡ drop (place - self.entry.place) self.entry.bytes.now }
+        ensures bytes { result.bytes.now ≡ drop (place - self.now.place) self.now.bytes.now }
     {
         Unread {
             bytes: &self.bytes[place - self.place..],
@@ -36,14 +36,13 @@ impl<'a> Unread<'a> {
     }
 
     // A package's body, as a part of its own: from one place to another.
-    pub(crate) fn body(self, place: usize, end: usize) -> Unread<'a>
-        requires { (self.place ≤ place) × ((place ≤ end) × (end ≤ self.place + length self.bytes.now)) }
+    pub(crate) fn body(&self, place: usize, end: usize) -> Unread<'a>
+        requires { (self.now.place ≤ place) × ((place ≤ end) × (end ≤ self.now.place + length self.now.bytes.now)) }
         ensures place { result.place ≡ place }
-        ensures bytes { result.bytes.now ≡ take (end - place) (drop (place - self.entry.place) self.entry.bytes.now) }
+        ensures bytes { result.bytes.now ≡ take (end - place) (drop (place - self.now.place) self.now.bytes.now) }
     {
-        let behind = self.onward(place);
         Unread {
-            bytes: &behind.bytes[..end - place],
+            bytes: &self.bytes[place - self.place..end - self.place],
             place,
         }
     }

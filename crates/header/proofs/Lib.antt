@@ -4,3 +4,4 @@ pub mod Parts
 pub mod Sums
 pub mod Theorems
 pub mod Written
+pub mod Copied

@@ -13,6 +13,16 @@ fn checksum(bytes: &[u8]) -> u8
     crate::sum(bytes).wrapping_neg()
 }
 
+// Byte by byte: the library's copy of a slice of any length is a call of memmove, and what C links calls memcpy and memset alone.
+fn copy(to: &mut [u8], bytes: &[u8])
+    requires { length to.old ≡ length bytes.now }
+    ensures { to.new ≡ bytes.now }
+{
+    for i in 0..bytes.len() {
+        to[i] = bytes[i];
+    }
+}
+
 // All bytes of a table, and how many they are; the checksum is worked out over them with 0 in its place.
 pub(crate) fn fill(
     out: &mut [u8],
@@ -29,7 +39,7 @@ pub(crate) fn fill(
     out[4..8].copy_from_slice(&n.to_le_bytes()[..4]);
     out[8..10].copy_from_slice(&[revision, 0]);
     out[10..LENGTH].copy_from_slice(rest);
-    out[LENGTH..n].copy_from_slice(body);
+    copy(&mut out[LENGTH..n], body);
     out[9] = checksum(&out[..n]);
     n
 }

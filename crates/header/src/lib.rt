@@ -14,7 +14,7 @@ mod fill;
 // The bytes of a header.
 const LENGTH: usize = 36;
 
-// The longest body whose table has a length of four bytes.
+// The longest body whose table has a length of four bytes: 2^32 - 1, less the header.
 const BODY_LIMIT: usize = 4294967259;
 
 #[derive(Clone, Copy, Debug, PartialEq, Eq)]
@@ -93,7 +93,8 @@ pub fn read(table: &[u8]) -> Result<Header, AmlError>
     })
 }
 
-// The body, as a part of the bytes given; none where the header is refused.
+// The body, as a part of the bytes given; none where the header is refused. No Option: body_of gives nothing for what is refused, and a public function that
+// cannot fail stays one.
 pub fn body(table: &[u8]) -> &[u8]
     ensures { result.now ≡ body_of table.now (header_in table.now) }
 {

@@ -69,6 +69,7 @@ pub(crate) fn put(out: &mut [u8], at: usize, width: usize, v: u64)
     ensures { out.new ≡ ink out.old at (bits width v) }
 {
     let mut left = width;
+    // No range counts the turns: each takes what its byte has.
     loop {
         let p = at + (width - left);
         let n = part(p % 8, left);

@@ -10,16 +10,20 @@ pub(crate) const HANDLE_BITS: usize = 10;
 
 // The deepest levels hold no bindings: a name has one component more than its level.
 pub(crate) const DEEPEST: usize = table::layout::COMPONENTS - 1;
+
 // A depth for each level, the root's 0, and one past them.
 pub(crate) const DEPTHS: usize = DEEPEST + 2;
 
 pub(crate) const HEADER_BITS: usize = 32;
-// depth, type and segment
+
+// Depth, type and segment.
 pub(crate) const LEVEL_BITS: usize = DEPTH_BITS + 35;
-// segment and handle
+
+// Segment and handle.
 pub(crate) const BINDING_BITS: usize = 32 + HANDLE_BITS;
 
-// Where the objects begin, behind so many levels below the root and all bindings.
+// Where the objects begin, behind so many levels below the root and all bindings. Both counts are bounded here and not in `Counts`, which is public and holds any
+// numbers.
 pub(crate) fn objects_place(levels: usize, bindings: usize) -> usize
     requires { (levels < 128) × (bindings ≤ 512) }
     ensures { result ≡ place_of_objects first_edition levels bindings }

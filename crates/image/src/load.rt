@@ -1,4 +1,5 @@
 // The words of an image that was tested, put into a table. The level records and the counts of bindings stand apart, so two places walk along.
+// `Counts` is public and holds any numbers: its bounds, which the header's checks found, are facts of the calls, and so is a place's bound, which follows from them.
 ghost use Rattle.std.specs.Prelude.{◌≡◌, ℕ, ◌++◌, map, suc, ◌+◌, ◌*◌, ◌^◌, ◌<◌, ◌≤◌, length, take, drop, slice_index};
 ghost use Rattle.table.specs.Limits.{limits};
 ghost use Rattle.table.specs.Memory.{size};
@@ -35,6 +36,7 @@ fn levels(bytes: &[u8], words: &mut [u64], n: usize)
     let mut at = root + 10 + own * BINDING_BITS;
     for k in 0..n {
         let count = bits::field(bytes, at, 10) as usize;
+        // By index: the record's place is worked out from k too.
         words[k + 1] = level_word(bytes, HEADER_BITS + k * LEVEL_BITS, count);
         at = at + 10 + count * BINDING_BITS;
     }

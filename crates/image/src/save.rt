@@ -10,7 +10,7 @@ ghost use Rattle.image.specs.Image.{binding_fields, object_fields};
 ghost use Rattle.image.specs.Inside.{ink, used_of, fields_of_word, words_fields, counted_fields, counts_fields, table_fields, Ranked, Ready, Filled, IsInUse};
 
 use crate::layout::{BINDING_BITS, DEPTH_BITS, EDITION, HANDLE_BITS, HEADER_BITS, LEVEL_BITS};
-use crate::{bits, layout, segments};
+use crate::{Counts, bits, layout, segments};
 use table::layout::{BindingWord, COUNT_AT, LEVELS, LevelWord, VALUES_AT};
 
 // The words before the first spare one.
@@ -22,14 +22,14 @@ fn used(words: &[u64]) -> &[u64]
 }
 
 // Edition and counts.
-fn header(out: &mut [u8], levels: usize, bindings: usize, objects: usize)
+fn header(out: &mut [u8], c: Counts)
     requires { 4 ≤ length out.old }
-    ensures { out.new ≡ ink out.old 0 (spelled (counts_fields first_edition levels bindings objects)) }
+    ensures { out.new ≡ ink out.old 0 (spelled (counts_fields first_edition c.levels c.bindings c.objects)) }
 {
     bits::put(out, 0, 4, EDITION);
-    bits::put(out, 4, 8, levels as u64);
-    bits::put(out, 12, 10, bindings as u64);
-    bits::put(out, 22, 10, objects as u64);
+    bits::put(out, 4, 8, c.levels as u64);
+    bits::put(out, 12, 10, c.bindings as u64);
+    bits::put(out, 22, 10, c.objects as u64);
 }
 
 // A level: depth, type, segment.
@@ -149,7 +149,12 @@ impl InUse<'_> {
     {
         let all = self.levels;
         let below = &all[1..];
-        header(out, below.len(), self.bindings.len(), self.objects.len());
+        let c = Counts {
+            levels: below.len(),
+            bindings: self.bindings.len(),
+            objects: self.objects.len(),
+        };
+        header(out, c);
         levels(out, HEADER_BITS, below);
         bound(
             out,

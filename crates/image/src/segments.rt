@@ -3,7 +3,7 @@ ghost use Rattle.std.specs.Prelude.{◌≡◌, ◌^◌, ◌<◌};
 ghost use Rattle.image.specs.Image.{bytes_of_segment};
 ghost use Rattle.image.specs.Reader.{are_chars_ok, segment_number};
 
-// Four characters that are a segment.
+// Four characters that are a segment. path's `is_segment` is the same test, private to path: nothing else here goes by paths.
 pub(crate) fn chars_ok(v: u64) -> bool
     requires { v < 2 ^ 32 }
     ensures { result ≡ are_chars_ok v }

@@ -1,4 +1,5 @@
 // An image's checks, from left to right: the first that does not hold is the answer, and nothing is written.
+// `Counts` is public and holds any numbers: its bounds, which the header's checks find, are facts of the calls, and so is a place's bound, which follows from them.
 ghost use Rattle.std.specs.Prelude.{◌≡◌, cond, ◌+◌, ◌*◌, ◌^◌, ◌<◌, ◌≤◌, leb, length};
 ghost use Rattle.pkg_length.specs.Refusal.{gives, refuses, said, and_then};
 ghost use Rattle.table.specs.Limits.{limits};
@@ -92,6 +93,7 @@ fn level(bytes: &[u8], at: usize, before: usize, low: &[u64; DEPTHS]) -> Result<
     }
     let typ_at = at + DEPTH_BITS;
     let typ = need(bytes, typ_at, 3)?;
+    // A type is its number here, as in table's words, which hold no LevelType.
     if 6 <= typ {
         return Err(AmlError::ImageType(typ_at));
     }

@@ -99,6 +99,7 @@ impl fmt::Display for Flag {
     }
 }
 
+// Another crate's type has no Display of klem's: a struct around it, here and below.
 #[derive(Clone, Copy)]
 struct LengthText(PkgLength);
 

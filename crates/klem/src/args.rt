@@ -145,6 +145,7 @@ impl<'a> Call<'a> {
         }
     }
 
+    // So many words and no more. Each stands on the one before; a tuple has no length to be generic in.
     pub fn none(mut self) -> Result<(), Fault> {
         match self.words.next() {
             Some(_) => Err(Fault::Words(self.command)),

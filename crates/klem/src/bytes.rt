@@ -77,6 +77,7 @@ fn char(bytes: &[u8]) -> Result<Byte, Fault> {
     })
 }
 
+// Not by `Hex::exactly`: it tells of the count before it tells of the digits.
 fn seg(bytes: &[u8]) -> Result<NameSeg, Fault> {
     let [first, second, third, fourth] = bytes else {
         return Err(Fault::FourBytes);

@@ -23,7 +23,7 @@ pub enum Fault {
 }
 
 impl Fault {
-    // The heaviest of a line's faults is told. No derived order says it, since three of them weigh the same.
+    // The heaviest of a line's faults is told. No derived order says it, since eleven of them weigh the same.
     fn weight(self) -> u8 {
         match self {
             Fault::Size => 0,

@@ -1,5 +1,5 @@
 // The list of levels, and the namespace drawn as a tree.
-use namespace::{LevelType, listing};
+use namespace::listing;
 use std::fmt;
 use table::layout::{BindingWord, LEVELS, LevelWord, VALUES_AT};
 use table::segments;
@@ -46,7 +46,8 @@ impl<'a> fmt::Display for Tree<'a> {
             let level = listing::read(*word);
             let segment = level.segment;
             start_line(f, level.depth)?;
-            write!(f, "{} {}", text(&segment, "\\"), type_name(level.typ))?;
+            let typ = level.typ;
+            write!(f, "{} {typ}", text(&segment, "\\"))?;
             let count = LevelWord(*word).count();
             for binding in bindings.by_ref().take(count) {
                 start_line(f, level.depth)?;
@@ -77,15 +78,4 @@ fn write_binding<W: fmt::Write>(
     let segment = str::from_utf8(&segment).unwrap_or_default();
     let value = listing::word(table, VALUES_AT + handle as usize);
     write!(f, "  {segment} = {value} handle {handle}")
-}
-
-fn type_name(typ: LevelType) -> &'static str {
-    match typ {
-        LevelType::Scope => "Scope",
-        LevelType::Device => "Device",
-        LevelType::Processor => "Processor",
-        LevelType::PowerResource => "PowerResource",
-        LevelType::ThermalZone => "ThermalZone",
-        LevelType::MethodLocals => "MethodLocals",
-    }
 }

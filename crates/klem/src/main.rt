@@ -21,7 +21,7 @@ use shell::Shell;
 use std::io;
 use std::io::BufReader;
 
-// How many bytes are read at once.
+// How many bytes are read at a time. The answers that wait are written behind each such chunk (docs/DECISIONS.md).
 const CHUNK: usize = 265_536;
 
 // What went wrong is told on standard error: a program has no status of its own.

@@ -2,12 +2,13 @@
 use mathlib.Core.Path.{◌≡◌, refl, sym, ◌∙◌, ap}
 use mathlib.Core.Bool.{Bool, true, false}
 use mathlib.Core.List.{List, [], ◌∷◌, ◌++◌, map, append-nil, append_assoc}
-use Prim.Native.Nat.{ℕ, suc, ◌+◌, ◌-◌, ◌<◌, ◌≤◌}
+use Prim.Native.Nat.{ℕ, suc, ◌+◌, ◌-◌, ◌<◌, ◌≤◌, ◌%◌, ◌/◌}
 use native.Mathlib.Omega.{arith}
 use native.Mathlib.Numerals.{add-one}
-use lib.ListN.{length, get_or, set, take, drop, length-set, length-append, length-map, get_or-map, drop_of_length-le}
-use lib.Seq.{take_at, drop_at, drop-drop, drop-cons, set_at, append_snoc, take-suc, take_all, length-take-le, take-suc-set}
+use lib.ListN.{length, get_or, set, take, drop, length-append, length-drop, length-map, get_or-map, drop_of_length-le}
+use lib.Seq.{take_at, drop_at, drop-drop, drop-cons, set_at, append_snoc, take-suc, take_all, length-take-le}
 use borrow.Rule.Slice.PartMut.{put_mid, Post-is}
+use Rattle.std.specs.Int.{w64, to_le_bytes}
 use Rattle.grammar.specs.Grammar.{cells}
 use Rattle.statement.specs.Frames.{bits}
 use Rattle.statement.specs.declared.frame.Frame.{Frame}
@@ -40,12 +41,15 @@ put-tail : {A : Type 0} (a : ℕ) (xs ys : List A) → a ≤ length xs → put_m
 put-tail {A} a xs ys h =
     ap (λ (r : List A). take a xs ++ (ys ++ r)) (Post-is a (length xs) xs h ∙ drop_of_length-le xs {i = length xs} (omega arith)) ∙ ap (λ (r : List A). take a xs ++ r) (append-nil ys)
 
+-- the two low bytes of a number in eight
+pub low-two : (n : ℕ) → take 2 (to_le_bytes w64 n) ≡ n % 256 ∷ n / 256 % 256 ∷ []
+low-two n = grind arith
+
 -- a count in two bytes, then the bytes
-pub put-path : (xs ys : List ℕ) (m n : ℕ) → length xs ≡ 130 → put_mid 2 128 (set (set xs 0 m) 1 n) ys ≡ m ∷ n ∷ ys
-put-path xs ys m n h =
-    let k : length (set (set xs 0 m) 1 n) ≡ 130 = simp (length-set, length-set) h in
-    (rw k at (put-tail 2 (set (set xs 0 m) 1 n) ys (omega (arith, k))))
-    ∙ ap (λ (r : List ℕ). r ++ ys) (take-suc-set (set xs 0 m) 1 n (simp length-set (omega (arith, h))) ∙ ap (λ (r : List ℕ). r ++ (n ∷ [])) (take-suc-set xs 0 m (omega (arith, h))))
+pub put-path : (xs ys zs : List ℕ) → length zs ≡ 2 → length xs ≡ 130 → put_mid 2 128 (zs ++ drop 2 xs) ys ≡ zs ++ ys
+put-path xs ys zs z h =
+    let k : length (zs ++ drop 2 xs) ≡ 130 = simp (length-append, length-drop) (omega (arith, z, h)) in
+    (rw k at (put-tail 2 (zs ++ drop 2 xs) ys (omega (arith, k)))) ∙ ap (λ (r : List ℕ). r ++ ys) (take_at zs (drop 2 xs) 2 z)
 
 -- the flags, then the numbers, then the width
 pub put-frame : (ws xs ys : List ℕ) (f : Frame) (n : ℕ) → length f.set ≡ cells → length f.val ≡ cells → length ws ≡ frame_size → n ≡ bits f.width →

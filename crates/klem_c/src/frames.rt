@@ -9,7 +9,7 @@ use crate::slices::FRAME;
 use statement::frame::{CELLS, Frame, Width};
 
 // Behind the flags and the numbers.
-const WIDTH_AT: usize = 30;
+const WIDTH_AT: usize = 2 * CELLS;
 
 // Its refusal is this library's own, 1004, and so it is no `TryFrom` of statement's.
 pub(crate) fn width_in(bits: u64) -> Result<Width, Fault>
@@ -27,6 +27,7 @@ fn flags_in(words: &[u64; FRAME]) -> [bool; CELLS]
     ensures { result ≡ flags_at words.now }
 {
     let mut set = [false; CELLS];
+    // By index, here and below: of what a `zip` of `iter_mut` writes, the proof knows nothing behind the loop.
     for (cell, word) in words[..CELLS].iter().enumerate() {
         set[cell] = *word != 0;
     }

@@ -27,6 +27,7 @@ fn fill(words: &[u64], list: &mut [u64])
     requires { length words.now ≤ length list.old }
     ensures { list.new ≡ map packed_level (map word_record words.now) ++ drop (length words.now) list.old }
 {
+    // By index: of what a `zip` of `iter_mut` writes, the proof knows nothing behind the loop.
     for (i, word) in words.iter().enumerate() {
         list[i] = packed(*word);
     }

@@ -1,4 +1,5 @@
-// What a kernel links: every call of include/klem.h, on numbers and slices.
+// What a kernel links: every call of include/klem.h, on numbers and slices. There is one function for each call, whatever two of them share: C calls each by its
+// name.
 #![tactic(auto)]
 
 pub mod blocks;

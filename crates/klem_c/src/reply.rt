@@ -280,7 +280,7 @@ impl Named for LevelFound {
     }
 }
 
-// How a run ended, with its units.
+// How a run ended, with its units. Numbered as in klem.h.
 pub(crate) fn ran(run: Execution) -> [u64; RESULT]
     ensures { result ≡ run_words (end_said run.end) run.units }
 {

@@ -3,15 +3,18 @@ ghost use Rattle.std.specs.Prelude.{◌≡◌};
 ghost use Rattle.klem_c.specs.Paths.{path_given, path_bytes};
 
 use name_object::{AmlName, PATH_BYTES};
+use statement::frame::CELLS;
 
 // What a call returns where a slice whose length is fixed has another. A call first takes each of its slices as the array that it has to be. Two
-// that are written have a `let` each: where one tuple holds both and only the first is refused, nothing is known of what the second holds.
+// that are written have a `let` each: where one tuple holds both and only the first is refused, nothing is known of what the second holds. No
+// closure takes the rest of a call: its clause would be the call's own, said twice.
 pub(crate) const BAD_SLICE: u64 = 1001;
 
 // A path's count in two bytes, and the bytes of its components.
-pub(crate) const PATH: usize = 130;
+pub(crate) const PATH: usize = 2 + PATH_BYTES;
 
-pub(crate) const FRAME: usize = 31;
+// Each cell's flag, each cell's number, and the width.
+pub(crate) const FRAME: usize = 2 * CELLS + 1;
 
 pub(crate) const RESULT: usize = 8;
 
@@ -28,8 +31,6 @@ pub(crate) fn path_in(src: &[u8]) -> Option<AmlName>
 pub(crate) fn put_path(out: &mut [u8; PATH], name: &AmlName)
     ensures { out.new ≡ path_bytes name.now }
 {
-    // By its two bytes: a count over them is cut, which `to_le_bytes` of a smaller type would want done before, and be no plainer.
-    out[0] = (name.count % 256) as u8;
-    out[1] = (name.count / 256 % 256) as u8;
+    out[..2].copy_from_slice(&name.count.to_le_bytes()[..2]);
     out[2..].copy_from_slice(&name.bytes);
 }

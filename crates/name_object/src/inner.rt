@@ -16,7 +16,7 @@ pub fn empty() -> AmlName
     }
 }
 
-// Component k.
+// Component k. Here and above, components are taken by index and no slice of them is made: this clause speaks of the four bytes from 4 * k on.
 pub fn component(name: &AmlName, k: usize) -> [u8; 4]
     requires { k < component_limit }
     ensures { result ≡ slice_index name.now.bytes (4 * k) ∷ slice_index name.now.bytes (4 * k + 1) ∷ slice_index name.now.bytes (4 * k + 2) ∷ slice_index name.now.bytes (4 * k + 3) ∷ [] }

@@ -24,7 +24,7 @@ const DUAL_NAME_PREFIX: u8 = 0x2E;
 
 const MULTI_NAME_PREFIX: u8 = 0x2F;
 
-// The first of a component's four bytes, where it is the root.
+// The first of a component's four bytes, where it is the root. No enum: a component is four bytes of a path's memory (`path_ok`).
 pub const ROOT_CHAR: u8 = 0x5C;
 
 // The same, where it leads to the scope above.
@@ -35,7 +35,7 @@ pub const PREFIX_CHAR: u8 = 0x5E;
 pub struct NameSeg(pub [u8; 4]);
 
 // A path: how many components, and four bytes for each: a segment, or 5C or 5E and zeros. Spare bytes are zero, so equal paths are equal values.
-// An array with its count, and no Vec: the layers use no heap, C lends this layout (include/klem.h), and any memory is taken and tested (26), by `path_ok`.
+// An array and a count: no heap (docs/DECISIONS.md), and `from_components`, klem.h's path and `path_of_name` speak of both. Any memory is taken and tested (26), by `path_ok`.
 #[derive(Clone, Copy, Debug, PartialEq, Eq)]
 pub struct AmlName {
     pub count: usize,
@@ -104,6 +104,7 @@ fn name_seg(input: &[u8], at: usize) -> Result<usize, AmlError>
     requires { at ≤ length input.now }
     ensures { said result ≡ segment_end input.now at }
 {
+    // By index: the byte behind the last is asked for too, and is refused (1).
     for k in 0..4 {
         let i = at + k;
         if !is_seg_char(k, byte_at(input, i)?) {
@@ -119,7 +120,7 @@ fn name_segs(input: &[u8], run: Run) -> Result<usize, AmlError>
     ensures { said result ≡ segments_end input.now run.from run.count }
 {
     let mut at = run.from;
-    for done in 0..run.count {
+    for _done in 0..run.count {
         at = name_seg(input, at)?;
     }
     Ok(at)
@@ -170,6 +171,7 @@ fn build(input: &[u8], pre: usize, run: Run) -> AmlName
     for byte in &input[..pre] {
         name = inner::push(name, [*byte, 0, 0, 0]);
     }
+    // By index: a run is places in the input, as `name_at` has it.
     for j in 0..run.count {
         let at = run.from + 4 * j;
         name = inner::push(

@@ -21,15 +21,12 @@ use Rattle.name_object.specs.declared.NameSeg.{NameSeg}
 use Rattle.namespace.specs.Settled.{Settled, segment_of}
 
 -- the test of one bare segment
-not-one : (cs : List Component) → (length cs ≡ 1 → ⊥) → one_segment cs ≡ false
-not-one [] h = refl
-not-one (root ∷ cs) h = refl
-not-one (up ∷ cs) h = refl
-not-one (seg a b c d ∷ []) h = absurd (h refl)
-not-one (seg a b c d ∷ x ∷ cs) h = refl
-
-pub bare-many : (name : AmlName) → (name.count ≡ 1 → ⊥) → one_segment (path_of_name name) ≡ false
-bare-many name h = not-one (path_of_name name) (λ e. h (sym (length-path name) ∙ e))
+alone-is-one : (cs : List Component) → one_segment cs ≡ true → length cs ≡ 1
+alone-is-one [] h = never h
+alone-is-one (root ∷ cs) h = never h
+alone-is-one (up ∷ cs) h = never h
+alone-is-one (seg a b c d ∷ []) h = refl
+alone-is-one (seg a b c d ∷ x ∷ cs) h = never h
 
 lead-root : lead_ok 0x5C ≡ false
 unfolding lead_ok
@@ -49,7 +46,7 @@ one-kind a b c d h = go (eqb a 0x5C) (eqb a 0x5E) refl refl h
     go false true p q h = ap lead_ok (eqb-true a 0x5E q) ∙ lead_up
     go false false p q h = seg-lead a b c d h
 
-pub bare-one : (limit : ℕ) (name : AmlName) → path_ok limit name ≡ true → name.count ≡ 1 → lead_ok (get_or name.bytes 0 0) ≡ one_segment (path_of_name name)
+bare-one : (limit : ℕ) (name : AmlName) → path_ok limit name ≡ true → name.count ≡ 1 → lead_ok (get_or name.bytes 0 0) ≡ one_segment (path_of_name name)
 bare-one limit name h e = one-kind _ _ _ _ first ∙ ap one_segment (sym alone)
   where
     alone : path_of_name name ≡ component_of (get_or name.bytes 0 0) (get_or name.bytes 1 0) (get_or name.bytes 2 0) (get_or name.bytes 3 0) ∷ []
@@ -58,7 +55,7 @@ bare-one limit name h e = one-kind _ _ _ _ first ∙ ap one_segment (sym alone)
     first : kind_ok true (get_or name.bytes 0 0) (get_or name.bytes 1 0) (get_or name.bytes 2 0) (get_or name.bytes 3 0) ≡ true
     first = unfold path_ok bytes_ok in (halves (kind_ok true (get_or name.bytes 0 0) (get_or name.bytes 1 0) (get_or name.bytes 2 0) (get_or name.bytes 3 0)) _ (rw e at (halves (leb name.count limit) _ h).1)).0
 
-pub bare-is : (name : AmlName) → name.count ≡ 1 → lead_ok (get_or name.bytes 0 0) ≡ true
+bare-is : (name : AmlName) → name.count ≡ 1 → lead_ok (get_or name.bytes 0 0) ≡ true
     → path_of_name name ≡ seg (get_or name.bytes 0 0) (get_or name.bytes 1 0) (get_or name.bytes 2 0) (get_or name.bytes 3 0) ∷ []
 bare-is name e h = alone ∙ ap (λ (x : Component). x ∷ []) (lead-seg _ _ _ _ h)
   where
@@ -72,6 +69,12 @@ bare-is name e h = alone ∙ ap (λ (x : Component). x ∷ []) (lead-seg _ _ _ _
         go true t p q = never (sym lead-root ∙ sym (ap lead_ok (eqb-true a 0x5C p)) ∙ h)
         go false true p q = never (sym lead_up ∙ sym (ap lead_ok (eqb-true a 0x5E q)) ∙ h)
         go false false p q = refl
+
+pub bare-segment : (limit : ℕ) (name : AmlName) → path_ok limit name ≡ true → one_segment (path_of_name name) ≡ true
+    → path_of_name name ≡ seg (get_or name.bytes 0 0) (get_or name.bytes 1 0) (get_or name.bytes 2 0) (get_or name.bytes 3 0) ∷ []
+bare-segment limit name h o =
+    let e : name.count ≡ 1 = sym (length-path name) ∙ alone-is-one (path_of_name name) o in
+    bare-is name e (bare-one limit name h e ∙ o)
 
 -- cutting
 pub cut-start : (limit : ℕ) (name : AmlName) → length name.bytes ≡ 4 * limit → Settled limit name → name ≡ name_of limit (take name.count (path_of_name name))

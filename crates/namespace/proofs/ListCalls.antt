@@ -2,15 +2,15 @@
 use mathlib.Core.Path.{◌≡◌, refl, ap, sym, subst, ◌∙◌}
 use mathlib.Core.Bool.{true}
 use mathlib.Core.List.{List, [], ◌∷◌, ◌++◌, map}
-use Prim.Native.Nat.{ℕ, suc, ◌+◌, ◌-◌, ◌<◌, ◌≤◌, ◌^◌}
+use Prim.Native.Nat.{ℕ, zero, suc, ◌+◌, ◌-◌, ◌<◌, ◌≤◌, ◌^◌}
 use native.Mathlib.Omega.{arith}
 use native.Mathlib.Numerals.{add-one}
 use Rattle.std.proofs.lemmas.List.{map-append}
-use lib.ListN.{length, take, drop, get_or, set, length-map, length-drop}
-use lib.Seq.{take-suc, drop-cons, set_at, append_snoc, length-take-le, take-add, take-take, drop_at}
+use lib.ListN.{length, take, drop, get_or, set, length-set, length-map, length-drop}
+use lib.Seq.{take-suc, drop-cons, set_at, append_snoc, length-take-le, take-add, take-take, drop_at, get_or-take, get_or-drop, take_all}
 use borrow.Author.Tests.{le-leb, lt-leb}
 use Rattle.std.specs.Prelude.{Result}
-use Rattle.pkg_length.specs.Refusal.{Answer, refuses}
+use Rattle.pkg_length.specs.Refusal.{Answer, gives, refuses, refused}
 use Rattle.pkg_length.specs.declared.AmlError.{AmlError}
 use Rattle.table.specs.Limits.{Limits}
 use Rattle.table.specs.Memory.{is_well_formed, decode}
@@ -21,10 +21,42 @@ use Rattle.table.specs.declared.inner.Place.{Place}
 use Rattle.table.proofs.Objects.{long}
 use Rattle.table.proofs.LevelCalls.{length-ls}
 use Rattle.table.proofs.Listing.{listed_at, listed_here, listed-before, listed-missing}
-use Rattle.namespace.specs.Levels.{record_of_word, records_from}
+use Rattle.namespace.specs.Levels.{record_of_word, records_from, filled, left_of_list, Filled}
 use Rattle.namespace.specs.Listing.{word_record, run_records, Stands, Listable}
 use Rattle.namespace.specs.declared.LevelRecord.{LevelRecord}
 use Rattle.namespace.specs.declared.listing.Listing.{Listing}
+
+-- Records written one after the other.
+
+-- the first i elements of a list, set one after the other
+unfoldable pub written : {A : Type 0} → (ℕ → A) → ℕ → List A → List A
+written f zero ys = ys
+written f (suc i) ys = set (written f i ys) i (f i)
+
+pub length-written : {A : Type 0} (f : ℕ → A) (i : ℕ) (ys : List A) → length (written f i ys) ≡ length ys
+unfolding written
+length-written f zero ys = refl
+length-written f (suc i) ys = length-set (written f i ys) i (f i) ∙ length-written f i ys
+
+-- one more
+pub written-more : {A : Type 0} (f : ℕ → A) (i : ℕ) (ys zs : List A) (x : A) → zs ≡ written f i ys → x ≡ f i → set zs i x ≡ written f (i + 1) ys
+unfolding written
+written-more f i ys zs x e h =
+    let s : i + 1 ≡ suc i = omega arith in rw (e, h, s)
+
+written_is : {A : Type 0} (f : ℕ → A) (xs ys : List A) (d : A) → ((i : ℕ) → i < length xs → f i ≡ get_or xs i d) → (n : ℕ) → n ≤ length xs → n ≤ length ys → written f n ys ≡ take n xs ++ drop n ys
+unfolding written
+written_is f xs ys d e zero h k = refl
+written_is {A} f xs ys d e (suc n) h k =
+    ap (λ (l : List A). set l n (f n)) (written_is f xs ys d e n (omega arith) (omega arith) ∙ ap (λ (l : List A). take n xs ++ l) (drop-cons ys n d (omega arith)))
+    ∙ set_at (take n xs) (get_or ys n d) (drop (suc n) ys) (f n) n (length-take-le n xs (omega arith))
+    ∙ sym (append_snoc (take n xs) (f n) (drop (suc n) ys))
+    ∙ ap (λ (l : List A). l ++ drop (suc n) ys) (ap (λ (x : A). take n xs ++ (x ∷ [])) (e n (omega arith)) ∙ sym (take-suc xs n d (omega arith)))
+
+map-get_or : {A : Type 0} (g : ℕ → A) (l : List ℕ) (i : ℕ) → get_or (map g l) i (g 0) ≡ g (get_or l i 0)
+map-get_or g [] i = refl
+map-get_or g (x ∷ l) zero = refl
+map-get_or g (x ∷ l) (suc i) = map-get_or g l i
 
 -- one element more, written over what stood behind the others
 pub filled-more : {A : Type 0} (f : ℕ → A) (ws : List ℕ) (ys zs : List A) (i : ℕ) (x : A) → i < length ws → i < length ys → zs ≡ map f (take i ws) ++ drop i ys → x ≡ f (get_or ws i 0)
@@ -43,6 +75,30 @@ module _ (ws : List ℕ) (at n : ℕ) (h : at + n ≤ length ws) where
 
   pub records-long : length (run_records ws at n) ≡ n
   records-long = length-map (take n (drop at ws)) word_record ∙ run_long
+
+  record-at : (i : ℕ) → i < length (run_records ws at n) → word_record (get_or ws (at + i) 0) ≡ get_or (run_records ws at n) i (word_record 0)
+  record-at i k =
+      sym (map-get_or word_record (take n (drop at ws)) i ∙ ap word_record (get_or-take n (drop at ws) i 0 (omega (arith, records-long)) ∙ get_or-drop at ws i 0))
+
+  pub run-written : (ys : List LevelRecord) → n ≤ length ys → written (λ j. word_record (get_or ws (at + j) 0)) n ys ≡ run_records ws at n ++ drop (length (run_records ws at n)) ys
+  run-written ys k =
+      written_is (λ j. word_record (get_or ws (at + j) 0)) (run_records ws at n) ys (word_record 0) record-at n (omega (arith, records-long)) k
+      ∙ ap (λ (l : List LevelRecord). l ++ drop n ys) (take_all n (run_records ws at n) (omega (arith, records-long)))
+      ∙ ap (λ (k : ℕ). run_records ws at n ++ drop k ys) (sym records-long)
+
+same-filled : {x y : List LevelRecord} {a b : Answer ℕ} → x ≡ y → a ≡ b → ◌≡◌ {A = Filled} (record { records = x; said = a }) (record { records = y; said = b })
+same-filled e f = λ i. record { records = e i; said = f i }
+
+-- what stands in the list when as many are written as were counted
+pub leaves : (ws : List ℕ) (room : ℕ) (a : Answer (List LevelRecord)) (l : Listing) → Stands ws room a l → (ys : List LevelRecord) → length ys ≡ room
+    → left_of_list (written (λ j. word_record (get_or ws (l.at + j) 0)) l.count ys) (gives l.count) ≡ filled ys a
+leaves ws room a l h ys e =
+    same-filled (run-written ws l.at l.count h.inside ys (omega (arith, h.fits))) (ap gives (sym (records-long ws l.at l.count h.inside)))
+    ∙ ap (filled ys) (sym h.answer)
+
+-- a refusal leaves it
+pub leaves-refused : (a : Answer (List LevelRecord)) (e : AmlError) → a ≡ refused e → (ys : List LevelRecord) → left_of_list ys (refused e) ≡ filled ys a
+leaves-refused a e h ys = ap (filled ys) (sym h)
 
 -- What was found.
 

@@ -1,4 +1,5 @@
-// The edits of the words. Between two writes the words are no table, so an edit takes them bare, with what was tested before it.
+// The edits of the words. Between two writes the words are no table, so an edit takes them bare, with what was tested before it:
+// a type of tested words that are lent to write would be taken apart at the first write.
 ghost use Rattle.std.specs.Prelude.{◌≡◌, true, ℕ, ◌+◌, ◌-◌, ◌*◌, ◌^◌, ◌<◌, ◌≤◌};
 ghost use Rattle.pkg_length.specs.Refusal.{said, said_as};
 ghost use Rattle.table.specs.Limits.{limits};
@@ -16,7 +17,7 @@ use table::inner::{Place, Sought};
 use table::layout::{BindingWord, COUNT_AT, LAST_LEVEL, LEVELS, LevelWord, OBJECTS, VALUES_AT};
 
 // Adds a level of that type at the path.
-pub fn add_level(table: &mut [u64], path: &Keys, typ: LevelType) -> Result<(), AmlError>
+pub(crate) fn add_level(table: &mut [u64], path: &Keys, typ: LevelType) -> Result<(), AmlError>
     requires { is_well_formed limits table.old ≡ true }
     ensures { edit_left table.new (said result) ≡ left limits table.old (done (add_level_answer limits (decode limits table.old) path.now (number_of_type typ))) }
 {
@@ -40,7 +41,7 @@ pub fn add_level(table: &mut [u64], path: &Keys, typ: LevelType) -> Result<(), A
 }
 
 // Removes the level at the path, with everything below it.
-pub fn remove_level(table: &mut [u64], path: &Keys) -> Result<(), AmlError>
+pub(crate) fn remove_level(table: &mut [u64], path: &Keys) -> Result<(), AmlError>
     requires { is_well_formed limits table.old ≡ true }
     ensures { edit_left table.new (said result) ≡ left limits table.old (done (remove_level_answer (decode limits table.old) path.now)) }
 {
@@ -72,7 +73,7 @@ fn bind_at(table: &mut [u64], path: &Keys, place: Place, handle: AmlHandle)
 }
 
 // Adds a value under a new handle, and binds the path's last segment to it.
-pub fn add_value(table: &mut [u64], path: &Keys, value: u64) -> Result<AmlHandle, AmlError>
+pub(crate) fn add_value(table: &mut [u64], path: &Keys, value: u64) -> Result<AmlHandle, AmlError>
     requires { is_well_formed limits table.old ≡ true }
     ensures { edit_left table.new (said_as (λ h. h.0) result) ≡ left limits table.old (add_value_answer limits (decode limits table.old) path.now value) }
 {
@@ -89,7 +90,11 @@ pub fn add_value(table: &mut [u64], path: &Keys, value: u64) -> Result<AmlHandle
 }
 
 // Binds the path's last segment to what the target's is bound to.
-pub fn add_alias(table: &mut [u64], path: &Keys, target: &Keys) -> Result<AmlHandle, AmlError>
+pub(crate) fn add_alias(
+    table: &mut [u64],
+    path: &Keys,
+    target: &Keys,
+) -> Result<AmlHandle, AmlError>
     requires { is_well_formed limits table.old ≡ true }
     ensures { edit_left table.new (said_as (λ h. h.0) result) ≡ left limits table.old (add_alias_answer limits (decode limits table.old) path.now target.now) }
 {
@@ -99,7 +104,7 @@ pub fn add_alias(table: &mut [u64], path: &Keys, target: &Keys) -> Result<AmlHan
     Ok(aim)
 }
 
-pub fn write(table: &mut [u64], handle: AmlHandle, value: u64) -> Result<(), AmlError>
+pub(crate) fn write(table: &mut [u64], handle: AmlHandle, value: u64) -> Result<(), AmlError>
     requires { is_well_formed limits table.old ≡ true }
     ensures { edit_left table.new (said result) ≡ left limits table.old (done (set_value (decode limits table.old) handle.0 value)) }
 {

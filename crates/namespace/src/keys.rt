@@ -13,9 +13,9 @@ use path::inner::Path;
 use pkg_length::AmlError;
 use std::marker::Model;
 
-// The keys of a normal absolute path: the first `count` stand for its components.
+// The keys of a normal absolute path: the first `count` stand for its components. An array and a count, since there is no heap here (docs/DECISIONS.md).
 #[derive(Drop)]
-pub struct Keys {
+pub(crate) struct Keys {
     keys: [u64; COMPONENTS],
     count: usize,
 }
@@ -33,13 +33,15 @@ impl Model for Keys {
 }
 
 impl Keys {
-    pub fn of(path: &Absolute) -> Keys
+    pub(crate) fn of(path: &Absolute) -> Keys
         ensures { result ≡ keys (path_of_name path.now.name) }
     {
         let mut keys = [0u64; COMPONENTS];
         let name = &path.name;
+        // By index, as `component` has it; the root's key is 0 already.
         for i in 1..name.count {
-            keys[i] = table::segments::number(name_object::inner::component(name, i));
+            let characters = name_object::inner::component(name, i);
+            keys[i] = table::segments::number(characters);
         }
         Keys {
             keys,
@@ -48,7 +50,7 @@ impl Keys {
     }
 
     // What an edit or a lookup goes by: what its path is refused with, and then the keys of its normal form.
-    pub fn settled(path: &AmlName) -> Result<Keys, AmlError>
+    pub(crate) fn settled(path: &AmlName) -> Result<Keys, AmlError>
         ensures { said result ≡ settled_keys component_limit path.now }
     {
         let path = Absolute::settled(&Path::of(path)?)?;
@@ -56,7 +58,7 @@ impl Keys {
     }
 
     // The same of a path against a scope.
-    pub fn resolved(path: &AmlName, scope: &AmlName) -> Result<Keys, AmlError>
+    pub(crate) fn resolved(path: &AmlName, scope: &AmlName) -> Result<Keys, AmlError>
         ensures { said result ≡ resolved_keys component_limit path.now scope.now }
     {
         let path = Path::of(path)?;
@@ -65,7 +67,7 @@ impl Keys {
         Ok(Keys::of(&path))
     }
 
-    pub fn as_slice(&self) -> &[u64]
+    pub(crate) fn as_slice(&self) -> &[u64]
         ensures is { result.now ≡ self.now }
         ensures some { 0 < length self.now }
         ensures keyed { Keyed component_limit self.now }

@@ -23,13 +23,13 @@ use table::layout::{COUNT_AT, LAST_BINDING, LEVELS, VALUES_AT};
 
 // Words that passed the test of 24, so that what reads a table tests nothing again.
 #[derive(Clone, Copy)]
-pub struct Table<'a> {
-    pub words: &'a [u64],
+pub(crate) struct Table<'a> {
+    pub(crate) words: &'a [u64],
     ghost formed: { is_well_formed limits words.now ≡ true },
 }
 
 impl<'a> Table<'a> {
-    pub fn of(words: &'a [u64]) -> Result<Table<'a>, AmlError>
+    pub(crate) fn of(words: &'a [u64]) -> Result<Table<'a>, AmlError>
         ensures { MatchResult result (λ table. table.words.now ≡ words.now) (λ e. (e ≡ AmlError.BadTable) × (is_well_formed limits words.now ≡ false)) }
     {
         if !table::well_formed(words) {
@@ -39,7 +39,7 @@ impl<'a> Table<'a> {
     }
 
     // Exact lookup.
-    pub fn look_up(&self, path: &Keys) -> Result<AmlHandle, AmlError>
+    pub(crate) fn look_up(&self, path: &Keys) -> Result<AmlHandle, AmlError>
         ensures { said_as (λ h. h.0) result ≡ look_up_answer (decode limits self.now.words.now) path.now }
     {
         match table::inner::find_spot(self.words, path.as_slice())? {
@@ -49,7 +49,7 @@ impl<'a> Table<'a> {
     }
 
     // Where a path's last segment would be bound: there is room where its level is there, has nothing under that segment, and one binding more fits.
-    pub fn find_room(&self, path: &Keys) -> Result<Place, AmlError>
+    pub(crate) fn find_room(&self, path: &Keys) -> Result<Place, AmlError>
         ensures { RoomFor limits self.now.words.now path.now result }
     {
         match table::inner::find_spot(self.words, path.as_slice())? {
@@ -64,7 +64,7 @@ impl<'a> Table<'a> {
     }
 
     // The object of a handle.
-    pub fn read(&self, handle: AmlHandle) -> Result<u64, AmlError>
+    pub(crate) fn read(&self, handle: AmlHandle) -> Result<u64, AmlError>
         ensures { said result ≡ value_of (decode limits self.now.words.now) handle.0 }
     {
         let h = handle.0 as usize;
@@ -76,7 +76,7 @@ impl<'a> Table<'a> {
     }
 
     // A bare segment: the scope is asked, then each scope around it.
-    pub fn search_up(&self, segment: NameSeg, scope: &Absolute) -> Result<Found, AmlError>
+    pub(crate) fn search_up(&self, segment: NameSeg, scope: &Absolute) -> Result<Found, AmlError>
         ensures { said_as found_hit result ≡ told component_limit (search_up_answer limits (decode limits self.now.words.now) (segment_of segment) (path_of_name scope.now.name)) }
     {
         let keys = Keys::of(scope);
@@ -97,7 +97,7 @@ impl<'a> Table<'a> {
     }
 
     // Any other path is looked up there only.
-    pub fn search_once(&self, path: &Path, scope: &Absolute) -> Result<Found, AmlError>
+    pub(crate) fn search_once(&self, path: &Path, scope: &Absolute) -> Result<Found, AmlError>
         ensures { said_as found_hit result ≡ told component_limit (search_once_answer limits (decode limits self.now.words.now) (path_of_name path.now.name.now) (path_of_name scope.now.name)) }
     {
         let path = Absolute::against(path, &scope.as_path())?;
@@ -110,7 +110,11 @@ impl<'a> Table<'a> {
     }
 
     // The same as `search_up`, over levels. What is asked, the answer and the refusal differ; what is the same stands in `Keys::of` and `around`.
-    pub fn level_up(&self, segment: NameSeg, scope: &Absolute) -> Result<LevelFound, AmlError>
+    pub(crate) fn level_up(
+        &self,
+        segment: NameSeg,
+        scope: &Absolute,
+    ) -> Result<LevelFound, AmlError>
         ensures { said_as found_level result ≡ told component_limit (level_up_answer limits (decode limits self.now.words.now) (segment_of segment) (path_of_name scope.now.name)) }
     {
         let keys = Keys::of(scope);

@@ -17,6 +17,7 @@ use name_object::AmlName;
 use path::inner::Path;
 use paths::Absolute;
 use pkg_length::AmlError;
+use std::fmt;
 
 mod edits;
 mod keys;
@@ -36,6 +37,20 @@ pub enum LevelType {
     ThermalZone,
     // A level of this type is made at the path of a method when it is invoked, for its local variables.
     MethodLocals,
+}
+
+// A type's name.
+impl fmt::Display for LevelType {
+    fn fmt<W: fmt::Write>(&self, f: &mut fmt::Formatter<W>) -> fmt::Result {
+        f.write_str(match self {
+            LevelType::Scope => "Scope",
+            LevelType::Device => "Device",
+            LevelType::Processor => "Processor",
+            LevelType::PowerResource => "PowerResource",
+            LevelType::ThermalZone => "ThermalZone",
+            LevelType::MethodLocals => "MethodLocals",
+        })
+    }
 }
 
 // Types number as `LevelType` lists them, from 0.
@@ -58,7 +73,7 @@ impl From<LevelType> for u64 {
 }
 
 impl LevelType {
-    // The type of a number; from 5 on, the last.
+    // The type of a number; from 5 on, the last. It stands beside `try_from` because `listing::read` promises of every word.
     pub fn numbered(n: u64) -> LevelType
         ensures { result ≡ type_of_level n }
     {
@@ -106,7 +121,7 @@ pub struct Found {
     pub asked: usize,
 }
 
-// What a search over levels found: the full name, and how many scopes were asked.
+// What a search over levels found: the full name, and how many scopes were asked. Two types: the paper's two searches answer so.
 #[derive(Clone, Copy, Debug, PartialEq, Eq)]
 pub struct LevelFound {
     pub name: AmlName,
@@ -133,10 +148,13 @@ pub fn new(table: &mut [u64]) -> Result<(), AmlError>
     Ok(())
 }
 
+// From here on, one function for each of the paper's calls, which C has too, however alike some are.
+
 // Adds a level. Where it is there already, with whatever type, it stays as it is.
 pub fn add_level(table: &mut [u64], path: AmlName, typ: LevelType) -> Result<(), AmlError>
     ensures { edit_left table.new (said result) ≡ left limits table.old (add_level_call limits table.old path typ) }
 {
+    // The test of 24 alone, in each edit: they take the words bare (edits.rt).
     Table::of(table)?;
     let keys = Keys::settled(&path)?;
     edits::add_level(table, &keys, typ)
@@ -263,13 +281,14 @@ pub fn search_for_level(
     }
 }
 
-// Writes the levels from a starting level down into a lent list, a level before those below it and siblings in byte order. A list that is too short is refused with the
-// number needed, and stays as it is; records beyond those written keep their contents.
+// Writes the levels from a starting level down into a lent list, a level before those below it and siblings in byte order. A list that is too short is
+// refused with the number needed, and stays as it is; records beyond those written keep their contents.
 pub fn levels(table: &[u64], path: AmlName, list: &mut [LevelRecord]) -> Result<usize, AmlError>
     ensures { left_of_list list.new (said result) ≡ filled list.old (levels_call limits table.now path (length list.old)) }
 {
     let found = listing::start(table, path, list.len())?;
     let words = &table[found.at..found.at + found.count];
+    // By index: so the invariant speaks of the list alone, and of no iterator over it.
     for (i, word) in words.iter().enumerate() {
         list[i] = listing::read(*word);
     }

@@ -13,8 +13,8 @@ use pkg_length::AmlError;
 use table::inner::Sought;
 use table::layout::{LEVELS, LevelWord};
 
-// Where the levels that are asked for stand in the table: `count` words from index `at` on. A place and a count, and no slice of the words: the clause `Listable`
-// speaks of both.
+// Where the levels that are asked for stand in the table: `count` words from index `at` on. A place and a count, and no slice of the words:
+// the clause `Listable` speaks of both.
 #[derive(Clone, Copy, Debug, PartialEq, Eq)]
 pub struct Listing {
     pub at: usize,

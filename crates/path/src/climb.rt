@@ -47,6 +47,7 @@ fn walk(out: &mut [u8; PATH_BYTES], start: usize, path: &Path) -> Result<usize, 
     ensures { Walked component_limit out.old start path.now.name.now out.new result }
 {
     let mut high = start;
+    // By index, as `component` has it; bytes and a count, as memory.rt says.
     for i in 0..path.name.count {
         high = step(out, high, component(path.name, i))?;
     }

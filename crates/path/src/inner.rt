@@ -10,6 +10,13 @@ use name_object::inner::component;
 use name_object::{AmlName, PREFIX_CHAR, ROOT_CHAR};
 use pkg_length::AmlError;
 
+// The root stands first, in memory of any kind.
+pub fn starts_at_root(name: &AmlName) -> bool
+    ensures { result ≡ absolute (path_of_name name.now) }
+{
+    (name.count != 0) & (name.bytes[0] == ROOT_CHAR)
+}
+
 // A path: memory that passed the test of 26, so that what needs one tests nothing again.
 #[derive(Clone, Copy)]
 pub struct Path<'a> {
@@ -32,7 +39,7 @@ impl<'a> Path<'a> {
     pub fn is_absolute(&self) -> bool
         ensures { result ≡ absolute (path_of_name self.now.name.now) }
     {
-        (self.name.count != 0) & (self.name.bytes[0] == ROOT_CHAR)
+        starts_at_root(self.name)
     }
 
     // One component, a segment.
@@ -47,6 +54,7 @@ impl<'a> Path<'a> {
     pub fn is_normal(&self) -> bool
         ensures { result ≡ is_normal_path (path_of_name self.now.name.now) }
     {
+        // By index, as `component` has it.
         for i in 0..self.name.count {
             if component(self.name, i)[0] == PREFIX_CHAR {
                 return false;

@@ -77,6 +77,7 @@ pub fn as_string(name: AmlName, out: &mut [u8]) -> Result<usize, AmlError>
     Ok(n)
 }
 
+// The next three are twins in form alone: a function that takes the question as a closure has a longer contract than they have bodies.
 // No `^` in it.
 pub fn is_normal(name: AmlName) -> Result<bool, AmlError>
     ensures { said result ≡ and_then (path_in_answer component_limit name) (λ cs. gives (is_normal_path cs)) }

@@ -1,11 +1,12 @@
 // A path in the making: bytes, and a count beside them. The first components are kept, as many as a path may have; those above them are only counted.
 // So a join may pass through more components on its way, and a text is read to its end before 9 is judged.
-// Bytes and count are no struct: tried, the count then lies in memory behind an array that is indexed, and to resolve a path takes 7 in 100 instructions more.
+// Bytes and count are no struct: tried, the count then lies in memory behind an array that is indexed, and to resolve a path takes 7 in 100 instructions
+// more, for which docs/SPEED.md's row `resolve against a scope` has no room.
 ghost use Rattle.std.specs.Prelude.{◌≡◌, ◌<◌};
 ghost use Rattle.name_object.specs.Component.{component_limit};
 ghost use Rattle.path.specs.Inside.{placed, placed_char, Limits};
 
-use name_object::{AmlName, COMPONENTS, PATH_BYTES, inner};
+use name_object::{COMPONENTS, PATH_BYTES, inner};
 use pkg_length::AmlError;
 
 // Component k, where there is room for it.

@@ -87,6 +87,7 @@ pub(crate) fn read_parts(
         count: from,
         chars: 0,
     };
+    // By index: where a segment is wrong its place in the whole text is told, so that an iterator would count too.
     for i in from..text.len() {
         match read_byte(out, s, text[i]) {
             Some(t) => s = t,
@@ -144,6 +145,7 @@ impl<'a> Path<'a> {
     {
         let count = self.name.count;
         let mut n = 0;
+        // By index, as `component` has it, and the last has no dot.
         for i in 0..count {
             n += piece_length(i + 1 < count, component(self.name, i)[0]);
         }
@@ -157,6 +159,7 @@ impl<'a> Path<'a> {
     {
         let count = self.name.count;
         let mut at = 0;
+        // By index, for the same reasons.
         for i in 0..count {
             at = write_piece(out, at, i + 1 < count, component(self.name, i));
         }

@@ -32,7 +32,8 @@ fn is_component(first: bool, four: [u8; 4]) -> bool
     }
 }
 
-// Every byte from an offset on is zero. All are looked at, so that many are taken at a time.
+// Every byte from an offset on is zero. All are looked at, so that many are taken at a time: every call makes this test of 26, twice in docs/SPEED.md's row
+// `resolve against a scope`, and `all` would stop at a byte.
 fn is_zero_from(bytes: &[u8; PATH_BYTES], from: usize) -> bool
     requires { from ≤ 4 * component_limit }
     ensures { result ≡ all_zero (drop from bytes.now) }
@@ -51,6 +52,7 @@ pub(crate) fn holds_path(name: &AmlName) -> bool
     if COMPONENTS < name.count {
         return false;
     }
+    // By index, as `component` has it.
     for i in 0..name.count {
         if !is_component(i == 0, component(name, i)) {
             return false;

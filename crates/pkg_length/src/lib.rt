@@ -59,7 +59,7 @@ pub enum AmlError {
     ImageBytesLeft(usize),
 }
 
-// A refusal as the table numbers it: the number, and the place, 0 where the table gives none.
+// A refusal as the table numbers it: the number, and the place, 0 where the table gives none. Its cases carry places, so no cast gives the number.
 #[derive(Clone, Copy, Debug, PartialEq, Eq)]
 pub struct Refusal(pub usize, pub usize);
 
@@ -116,7 +116,7 @@ impl From<AmlError> for Refusal {
     }
 }
 
-// A refusal's name in the table.
+// A refusal's name in the table. By hand: the derived Debug prints the place too, and these are the table's names.
 impl fmt::Display for AmlError {
     fn fmt<W: fmt::Write>(&self, f: &mut fmt::Formatter<W>) -> fmt::Result {
         f.write_str(match self {

@@ -23,8 +23,9 @@ pub struct Value {
     pub next: usize,
 }
 
-// Where a term is read, and how many depths are left for it, are passed one by one: they change at every call, and a struct of them would be taken
-// apart and made anew each time.
+// The part, where it is read, and how many depths are left are passed one by one, in exec.rt and part.rt too, and so each contract says that the place is in
+// the part: they change at every call, and a struct of them would be taken apart and made anew each time. A cell's number is its byte less LOCAL0_OP, by hand: a
+// function of grammar's would be public, and so have to answer for a byte that is no cell.
 impl Frame {
     fn step(&mut self, op: StepOp, cell: usize) -> Result<u64, AmlError>
         requires { cell < cells }

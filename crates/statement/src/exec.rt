@@ -8,15 +8,14 @@ ghost use Rattle.statement.specs.Frames.{bits};
 ghost use Rattle.statement.specs.declared.exec.Propagate.TheVariants.{Refused};
 ghost use Rattle.statement.specs.Lent.{StmtReady, SpendsOne, ran_in, step_in, turn_in, ran_of, step_of, step_do, else_do, while_do, TurnsOk, turn_of};
 
-use crate::DEPTH;
 use crate::frame::Frame;
 use crate::part::Part;
-use grammar::opcode;
+use grammar::{DEPTH, opcode};
 use pkg_length::AmlError;
 
 // What ends a list before its last statement is through (parser.rs: Propagate).
 #[derive(Clone, Copy, Debug, PartialEq, Eq)]
-pub enum Propagate {
+pub(crate) enum Propagate {
     Refused(AmlError),
     Return(u64),
     Break,
@@ -54,6 +53,7 @@ impl Frame {
         ensures { ran_in self.new units.new result ≡ ran_of (bits self.old.width) (read_list left 0 part.entry.bytes.now) self.old units.old }
     {
         let mut at = 0;
+        // No `for`: a statement takes as many bytes as it needs, so nothing counts the turns before they are over.
         while at < part.bytes.len() {
             at = self.statement_opcode(part, at, left, units)?;
         }
@@ -73,7 +73,7 @@ impl Frame {
         ensures { step_in self.new units.new result ≡ step_of (bits self.old.width) at (read_stmt left 0 (drop at part.entry.bytes.now)) self.old units.old }
     {
         spend(units)?; // for the statement
-        // Not by grammar's `stmt_op`: it looks an expression's opcode up, which `term_arg` does once more.
+        // Not by grammar's `stmt_op`: it is private to grammar, and would look an expression's opcode up, which `term_arg` does once more.
         match part.bytes[at] {
             opcode::DEF_BREAK_OP => Err(Propagate::Break),
             opcode::DEF_CONTINUE_OP => Err(Propagate::Continue),

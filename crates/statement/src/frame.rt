@@ -86,6 +86,8 @@ impl Frame {
         self
     }
 
+    // Below, and in eval.rt, a cell is a usize that each contract bounds: `TermOp::Cell` holds it so (`term_op_at`), and klem.h's calls lend it so. A type that
+    // holds the bound would be made anew at each use.
     pub(crate) fn load(&self, cell: usize) -> Result<u64, AmlError>
         requires { cell < cells }
         ensures { said result ≡ held self.now cell }

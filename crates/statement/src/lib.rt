@@ -8,6 +8,7 @@ ghost use Rattle.statement.specs.Promise.{HasRun, end_said};
 use crate::exec::Propagate;
 use crate::frame::Frame;
 use crate::part::Part;
+use grammar::DEPTH;
 use pkg_length::AmlError;
 
 mod eval;
@@ -15,9 +16,6 @@ mod exec;
 pub mod frame;
 mod number;
 mod part;
-
-// How deep statements nest, and terms.
-const DEPTH: usize = 16;
 
 // How a run ended.
 #[derive(Clone, Copy, Debug, PartialEq, Eq)]

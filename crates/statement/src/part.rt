@@ -8,9 +8,9 @@ ghost use Rattle.statement.specs.Lent.{Spans, ElseHeld, ElseAt, ElseEnds};
 use grammar::opcode;
 use pkg_length::Raw;
 
-// It is no longer than a block may be.
+// It is no longer than a block may be. No Unread of grammar's: a run gives no places, and goes by offsets.
 #[derive(Clone, Copy)]
-pub struct Part<'a> {
+pub(crate) struct Part<'a> {
     pub bytes: &'a [u8],
     ghost short: { length bytes.now ≤ block_limit },
 }
@@ -31,6 +31,8 @@ impl<'a> Part<'a> {
         requires { (at ≤ length self.bytes.now) × Accepts (read_package 0 (drop at self.bytes.now)) }
         ensures { Spans self.entry.bytes.now at result }
     {
+        // Not by `raw_pkg_length`, which gives a Raw at once: what the proofs know of a package that was read (`package-held`) is of this answer, and would have to
+        // be said of the other once more.
         let p = pkg_length::pkg_length(&self.bytes[at..]).unwrap();
         Raw {
             raw: p.length_read.raw_length,

@@ -1,26 +1,49 @@
 // For the layer above alone, over the parts of a table: what each needs is tested there.
 // The parts are cut from the lent words at each call, so their lengths are facts of the calls: a type that holds them would be made anew at every cut.
+// `path` and `scope` are a name's keys or their front: the type that knows how many there are (`Keys`) stands above, in namespace.
 ghost use Rattle.std.specs.Prelude.{◌≡◌, true, false, cond, ◌&&◌, ◌++◌, map, ℕ, ◌+◌, ◌-◌, ◌*◌, ◌^◌, ◌<◌, ◌≤◌, eqb, length, take, drop, get_or, replicate};
 ghost use Rattle.name_object.specs.Component.{component_limit};
 ghost use Rattle.name_object.specs.Memory.{all_zero};
 ghost use Rattle.table.specs.Limits.{limits};
-ghost use Rattle.table.specs.Layout.{binding_of};
+ghost use Rattle.table.specs.Layout.{pack, bind_word, binding_of};
 ghost use Rattle.table.specs.Valid.{segment_ok, name_ok};
 ghost use Rattle.table.specs.Memory.{is_well_formed, size};
 ghost use Rattle.table.specs.Inside.{word_ok, binds_ok, record_ok, scan, lowest, below, parts_ok, seek_in, placed, placed_gone_at, push, counts, place_behind, subtree_of, closed, slot_in, spot_in, bind_words, Rising, BindingsHeld, child_in, Trailed, deepest, value_held, level_held, nearest_of, depth_of, Keyed};
 
 use crate::layout::{
     BindingWord, COMPONENTS, COUNT, COUNT_AT, FIRST_SEGMENT, LEVELS, LevelWord, OBJECTS, RANK,
-    SEGMENT, SEGMENTS_END,
+    SEGMENT, SEGMENTS_END, TYPE,
 };
 use pkg_length::AmlError;
 
 // A rank for each component, none below them, and one past them.
 const RANKS: usize = COMPONENTS + 2;
+
 // The word before every binding's.
 const BEFORE: u64 = FIRST_SEGMENT * SEGMENT - 1;
 
+// The word behind every binding's.
 const PAST: u64 = SEGMENTS_END * SEGMENT;
+
+impl LevelWord {
+    // The word of a level with that many components, of a type's number, with that many bindings and of a segment's number. LevelType stands above, in namespace.
+    #[tactic(auto, unfolding(crate::specs::Layout::pack))]
+    pub fn new(rank: usize, typ: u64, count: usize, segment: u64) -> LevelWord
+        requires { (rank < 2 ^ 19) × (typ < 8) × (count < 1024) × (segment < 2 ^ 32) }
+        ensures { result.0 ≡ pack rank typ count segment }
+    {
+        LevelWord(rank as u64 * RANK + typ * TYPE + count as u64 * COUNT + segment)
+    }
+}
+
+impl BindingWord {
+    pub fn new(segment: u64, handle: u32) -> BindingWord
+        requires { segment < 2 ^ 32 }
+        ensures { result.0 ≡ bind_word (record { segment = segment; handle = handle }) }
+    {
+        BindingWord(segment * SEGMENT + handle as u64)
+    }
+}
 
 // A number is a segment.
 #[tactic(auto, using(std::proofs::lemmas::Bool::Decides::nat_tests), unfolding(crate::specs::Valid::segment_ok))]
@@ -30,7 +53,7 @@ fn seg_ok(s: u64) -> bool
     FIRST_SEGMENT <= s && s < SEGMENTS_END
 }
 
-// The root has no segment and is a Scope; below it, a segment and one of the six types.
+// The root has no segment and is a Scope; below it, a segment and one of the six types. A type is its number here: LevelType stands above, in namespace.
 fn name_fits(rank: usize, seg: u64, typ: u64) -> bool
     ensures { result ≡ name_ok rank seg typ }
 {
@@ -61,7 +84,8 @@ fn binds_fit(bindings: &[u64], n: usize, made: u32) -> bool
     last < PAST
 }
 
-// Every word is zero. All are looked at, so that many are taken at a time.
+// Every word is zero. All are looked at, so that many are taken at a time: the bar is the test of memory (docs/SPEED.md), which every call makes.
+// path's `is_zero_from` is the same over bytes: a generic one would take the zero and the test of one item as arguments, and be no shorter than the two loops.
 fn all_spare(words: &[u64]) -> bool
     ensures { result ≡ all_zero words.now }
 {
@@ -187,11 +211,11 @@ fn behind(levels: &[u64], place: Place) -> Place
 // Where a path leads: three outcomes, since what is missing is refused by a lookup, and the second is where an edit writes.
 #[derive(Clone, Copy, Debug, PartialEq, Eq)]
 pub enum Sought {
-    // the level's record, and its first binding
+    // The level's record, and its first binding.
     Here(Place),
-    // the level around is there, and the record would stand at this index
+    // The level around is there, and the record would stand at this index.
     Before(usize),
-    // segments up to and including the missing one, which is not the last
+    // Segments up to and including the missing one, which is not the last.
     Missing(usize),
 }
 
@@ -216,6 +240,7 @@ fn find_child(levels: &[u64], from: Place, rank: usize, seg: u64) -> Result<Plac
     let low = rank as u64 * RANK;
     let past = low + RANK;
     let mut binding = from.binding;
+    // By index: `enumerate().skip` was tried, and the proof did not close: it goes by the index, and the iterator by what it yielded.
     for level in from.level..levels.len() {
         let word = levels[level];
         if word < past {
@@ -261,6 +286,7 @@ pub fn subtree_end(levels: &[u64], place: Place) -> Place
 {
     let rank = LevelWord(levels[place.level]).rank();
     let mut binding = place.binding + LevelWord(levels[place.level]).count();
+    // By index, as in find_child.
     for level in place.level + 1..levels.len() {
         let word = LevelWord(levels[level]);
         if word.rank() <= rank {
@@ -289,9 +315,9 @@ fn find_slot(bindings: &[u64], from: usize, n: usize, seg: u64) -> Result<u32, u
 // A path's last segment among its level's bindings: a lookup wants the first, an edit the second, and neither is a refusal.
 #[derive(Clone, Copy, Debug, PartialEq, Eq)]
 pub enum Spot {
-    // its handle
+    // Its handle.
     Bound(u32),
-    // its level's record, and where its word would stand
+    // Its level's record, and where its word would stand.
     Free(Place),
 }
 
@@ -368,6 +394,8 @@ pub fn nearest_value(levels: &[u64], bindings: &[u64], scope: &[u64], seg: u64) 
 {
     let mut places = [START; COMPONENTS];
     let there = trail(levels, scope, &mut places);
+    // By index: `enumerate().rev()` over the places was tried, and the proof did not close: it goes by the index, and
+    // the iterator by what it yielded.
     for i in (0..there).rev() {
         let place = places[i];
         let count = LevelWord(levels[place.level]).count();
@@ -387,6 +415,7 @@ pub fn nearest_level(levels: &[u64], scope: &[u64], seg: u64) -> Option<usize>
 {
     let mut places = [START; COMPONENTS];
     let there = trail(levels, scope, &mut places);
+    // By index, as in nearest_value.
     for i in (0..there).rev() {
         let depth = i + 1;
         let next = Place {

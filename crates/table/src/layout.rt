@@ -1,13 +1,14 @@
 // How much a table holds, and where it stands (specs/Limits.antt, specs/Layout.antt).
-ghost use Rattle.std.specs.Prelude.{◌≡◌, ◌^◌, ◌<◌};
-ghost use Rattle.table.specs.Layout.{pack, rank_of, type_of, count_of, seg_of, bind_word, binding_of};
+ghost use Rattle.std.specs.Prelude.{◌≡◌};
+ghost use Rattle.table.specs.Layout.{rank_of, type_of, count_of, seg_of, binding_of};
 
 pub const LEVELS: usize = 128;
 
 pub const BINDINGS: usize = 512;
 
 pub const OBJECTS: usize = 512;
-// components of a name
+
+// Components of a name.
 pub const COMPONENTS: usize = name_object::COMPONENTS;
 
 // The levels stand first, then the bindings; then how many objects there are, and their values.
@@ -43,15 +44,6 @@ pub const SEGMENTS_END: u64 = 1874161;
 pub struct LevelWord(pub u64);
 
 impl LevelWord {
-    // The word of a level with that many components, of a type's number, with that many bindings and of a segment's number.
-    #[tactic(auto, unfolding(crate::specs::Layout::pack))]
-    pub fn new(rank: usize, typ: u64, count: usize, segment: u64) -> LevelWord
-        requires { (rank < 2 ^ 19) × (typ < 8) × (count < 1024) × (segment < 2 ^ 32) }
-        ensures { result.0 ≡ pack rank typ count segment }
-    {
-        LevelWord(rank as u64 * RANK + typ * TYPE + count as u64 * COUNT + segment)
-    }
-
     // How many components its path has, the root's one.
     pub fn rank(self) -> usize
         ensures { result ≡ rank_of self.0 }
@@ -84,13 +76,6 @@ impl LevelWord {
 pub struct BindingWord(pub u64);
 
 impl BindingWord {
-    pub fn new(segment: u64, handle: u32) -> BindingWord
-        requires { segment < 2 ^ 32 }
-        ensures { result.0 ≡ bind_word (record { segment = segment; handle = handle }) }
-    {
-        BindingWord(segment * SEGMENT + handle as u64)
-    }
-
     pub fn segment(self) -> u64
         ensures { result ≡ (binding_of self.0).segment }
     {

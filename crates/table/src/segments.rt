@@ -3,7 +3,10 @@ ghost use Rattle.std.specs.Prelude.{◌≡◌, ◌<◌, slice_index};
 ghost use Rattle.table.specs.Tree.{number_of_char, number};
 ghost use Rattle.table.specs.Levels.{char_of_number, characters_of_segment, bytes_of_segment};
 
-// A character's number: 0-9, A-Z, `_`.
+// A letter's number is its byte, less this.
+const LETTERS: u8 = b'A' - 10;
+
+// A character's number: 0-9, A-Z, `_`. The digits end before 0x3A, the letters before 0x5B.
 #[tactic(auto, using(std::proofs::lemmas::Bool::Decides::nat_tests), unfolding(crate::specs::Tree::number_of_char))]
 fn char_number(c: u8) -> u64
     ensures { (result ≡ number_of_char c) × (result < 37) }
@@ -12,7 +15,7 @@ fn char_number(c: u8) -> u64
         return (c % 16) as u64;
     }
     if c < 0x5B {
-        return (c - 0x37) as u64;
+        return (c - LETTERS) as u64;
     }
     36
 }
@@ -34,12 +37,12 @@ fn char_of(digit: u64) -> u8
     ensures { result ≡ char_of_number digit }
 {
     if digit < 10 {
-        return digit as u8 + 0x30;
+        return digit as u8 + b'0';
     }
     if digit < 36 {
-        return digit as u8 + 0x37;
+        return digit as u8 + LETTERS;
     }
-    0x5F
+    b'_'
 }
 
 // The four characters of a number.

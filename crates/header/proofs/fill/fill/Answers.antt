@@ -16,5 +16,5 @@ returns c =
     (c.copy_from_slice-2.ensures.after ∙ ap (λ (xs : List ℕ). take 4 xs) c.to_le_bytes.ensures ∙ low-four (36 + length a.body.now))
     c.copy_from_slice-3.ensures.after
     c.copy_from_slice-4.ensures.after
-    c.copy_from_slice-5.ensures.after
+    c.copy.ensures
     c.checksum.ensures

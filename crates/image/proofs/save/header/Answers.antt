@@ -15,10 +15,10 @@ returns c =
     let e₁ = one_field o c.put.new.out 0 4 1 c.put.ensures in
     let e₂ = more-field o
     c.put.new.out
-    c.put-2.new.out 0 4 8 a.levels (field 4 1 ∷ []) e₁
+    c.put-2.new.out 0 4 8 a.c.levels (field 4 1 ∷ []) e₁
     (search rules) refl c.put-2.ensures in
     let e₃ = more-field o c.put-2.new.out
-    c.put-3.new.out 0 12 10 a.bindings (field 4 1 ∷ field 8 a.levels ∷ []) e₂
+    c.put-3.new.out 0 12 10 a.c.bindings (field 4 1 ∷ field 8 a.c.levels ∷ []) e₂
     (search rules) refl c.put-3.ensures in
-    more-field o c.put-3.new.out c.put-4.new.out 0 22 10 a.objects
-    (field 4 1 ∷ field 8 a.levels ∷ field 10 a.bindings ∷ []) e₃ (search rules) refl c.put-4.ensures
+    more-field o c.put-3.new.out c.put-4.new.out 0 22 10 a.c.objects
+    (field 4 1 ∷ field 8 a.c.levels ∷ field 10 a.c.bindings ∷ []) e₃ (search rules) refl c.put-4.ensures

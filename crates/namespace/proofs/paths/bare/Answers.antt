@@ -1,16 +1,16 @@
--- One component, and it begins as a segment does.
-use mathlib.Core.Path.{sym, ◌∙◌}
-use Rattle.name_object.specs.Component.{component_limit}
-use Rattle.namespace.proofs.Bare.{bare-is, bare-one, bare-many}
+-- One component, a segment: its four bytes.
+use mathlib.Core.Path.{sym, ap, ◌∙◌}
+use mathlib.Core.List.{List, [], ◌∷◌}
+use Prim.Native.Nat.{ℕ}
+use lib.ListN.{get_or}
+use Rattle.name_object.specs.Component.{component_limit, seg}
+use Rattle.namespace.proofs.Bare.{bare-segment}
 use Rattle.namespace.proofs.paths.bare.Goals as goal
-use Rattle.namespace.proofs.paths.bare.Goals.{else-path-eq1-via-then-path-eq1+else-is_lead_name_char, else-path-eq1-via-else-path-eq1}
 
-pub returns-then-is_lead_name_char : goal.returns-then-is_lead_name_char
-returns-then-is_lead_name_char c = bare-is c.args.path.now.name.now c.if-path-eq1.true (sym c.is_lead_name_char.ensures ∙ c.if-is_lead_name_char.true)
+pub returns-then-not-is_one_segment : goal.returns-then-not-is_one_segment
+returns-then-not-is_one_segment c = sym c.is_one_segment.ensures ∙ c.if-not-is_one_segment.true
 
-pub returns-else-path-eq1 : goal.returns-else-path-eq1
-returns-else-path-eq1 c =
-    elim c.else-path-eq1.branch [
-      | else-path-eq1-via-then-path-eq1+else-is_lead_name_char w ↦ sym (bare-one component_limit c.args.path.now.name.now c.args.path.now.ok w.if-path-eq1.true) ∙ sym w.is_lead_name_char.ensures ∙ w.if-is_lead_name_char.false
-      | else-path-eq1-via-else-path-eq1 w ↦ bare-many c.args.path.now.name.now w.if-path-eq1.false
-    ]
+pub returns : goal.returns
+returns c =
+    bare-segment component_limit c.args.path.now.name.now c.args.path.now.ok (sym c.is_one_segment.ensures ∙ c.if-not-is_one_segment.false)
+    ∙ ap (λ (bs : List ℕ). seg (get_or bs 0 0) (get_or bs 1 0) (get_or bs 2 0) (get_or bs 3 0) ∷ []) (sym c.component.ensures)

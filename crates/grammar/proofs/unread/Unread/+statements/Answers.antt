@@ -28,44 +28,42 @@ def_if_else-returns t c =
 pub predicate_and_body-returns-in_err-body : goal.predicate_and_body-returns-in_err-body
 predicate_and_body-returns-in_err-body t c =
     residual _ _ c.from_residual-in_err-body.ensures
-    ∙ reaches.head-no-term _ _ _ _ c.in_ok-package.ensures _ _ c.onward.ensures.place c.onward.ensures.bytes _ _ c.in_err-body.ensures
+    ∙ reaches.head-no-term _ _ _ _ c.in_ok-package.ensures _ _ c.onward-part.ensures.place c.onward-part.ensures.bytes _ _ c.in_err-body.ensures
 
 pub predicate_and_body-returns-then-end-body : goal.predicate_and_body-returns-then-end-body
 predicate_and_body-returns-then-end-body t c =
-    reaches.head-short _ _ _ _ c.in_ok-package.ensures _ _ c.onward.ensures.place c.onward.ensures.bytes _ c.in_ok-body.ensures c.if-end-body.true
+    reaches.head-short _ _ _ _ c.in_ok-package.ensures _ _ c.onward-part.ensures.place c.onward-part.ensures.bytes _ c.in_ok-body.ensures c.if-end-body.true
 
 pub predicate_and_body-returns-in_err-term_list : goal.predicate_and_body-returns-in_err-term_list
 predicate_and_body-returns-in_err-term_list t c =
     residual _ _ c.from_residual-in_err-term_list.ensures
-    ∙ reaches.head-no-body _ _ _ _ c.in_ok-package.ensures _ _ c.onward.ensures.place c.onward.ensures.bytes _ c.in_ok-body.ensures c.if-end-body.false
-    _ _ c.body.ensures.place c.body.ensures.bytes _ _ c.in_err-term_list.ensures
+    ∙ reaches.head-no-body _ _ _ _ c.in_ok-package.ensures _ _ c.onward-part.ensures.place c.onward-part.ensures.bytes _ c.in_ok-body.ensures c.if-end-body.false
+    _ _ c.body-part.ensures.place c.body-part.ensures.bytes _ _ c.in_err-term_list.ensures
 
 pub predicate_and_body-returns : goal.predicate_and_body-returns
 predicate_and_body-returns t c =
-    reaches.head-body _ _ _ _ c.in_ok-package.ensures _ _ c.onward.ensures.place c.onward.ensures.bytes _ c.in_ok-body.ensures c.if-end-body.false
-    _ _ c.body.ensures.place c.body.ensures.bytes _ c.in_ok-term_list.ensures
+    reaches.head-body _ _ _ _ c.in_ok-package.ensures _ _ c.onward-part.ensures.place c.onward-part.ensures.bytes _ c.in_ok-body.ensures c.if-end-body.false
+    _ _ c.body-part.ensures.place c.body-part.ensures.bytes _ c.in_ok-term_list.ensures
 
 pub statement_opcode-returns-in-Return : goal.statement_opcode-returns-in-Return
 statement_opcode-returns-in-Return t c =
     reaches.stmt-arm _ _ _ (omega (arith, c.if-left-eq0.false)) c.requires _ _ c.stmt_op.ensures c.in-Return.is _
-    (reaches.next_one (read_term depth_limit) return _ _ _ _ _ c.next.ensures.place c.next.ensures.bytes c.term_arg.ensures)
+    (reaches.next_one (read_term depth_limit) return _ _ _ _ _ c.next-part.ensures.place c.next-part.ensures.bytes c.term_arg.ensures)
 
 pub statement_opcode-returns-in-If : goal.statement_opcode-returns-in-If
 statement_opcode-returns-in-If t c =
-    let n = c.next-in-If in
     reaches.stmt-arm _ _ _ (omega (arith, c.if-left-eq0.false)) c.requires _ _ c.stmt_op.ensures c.in-If.is _
-    (reaches.next_one (read_if (read_list (c.args.left - 1))) (λ (x : Stmt). x) _ _ _ _ _ n.ensures.place n.ensures.bytes c.def_if_else.ensures)
+    (reaches.next_one (read_if (read_list (c.args.left - 1))) (λ (x : Stmt). x) _ _ _ _ _ c.next-part.ensures.place c.next-part.ensures.bytes c.def_if_else.ensures)
 
 pub statement_opcode-returns-in-While : goal.statement_opcode-returns-in-While
 statement_opcode-returns-in-While t c =
-    let n = c.next-in-While in
     reaches.stmt-arm _ _ _ (omega (arith, c.if-left-eq0.false)) c.requires _ _ c.stmt_op.ensures c.in-While.is _
-    (reaches.next_one (read_head (read_list (c.args.left - 1))) while_of _ _ _ _ _ n.ensures.place n.ensures.bytes c.predicate_and_body.ensures)
+    (reaches.next_one (read_head (read_list (c.args.left - 1))) while_of _ _ _ _ _ c.next-part.ensures.place c.next-part.ensures.bytes c.predicate_and_body.ensures)
 
 pub statement_opcode-returns-in-Expr : goal.statement_opcode-returns-in-Expr
 statement_opcode-returns-in-Expr t c =
     reaches.stmt-arm _ _ _ (omega (arith, c.if-left-eq0.false)) c.requires _ _ c.stmt_op.ensures c.in-Expr.is _
-    (reaches.expr-here c.args.self.place c.args.self.bytes.now c.requires (read_list (c.args.left - 1)) _ c.term_arg-in-Expr.ensures)
+    (reaches.expr-here c.args.self.now.place c.args.self.now.bytes.now c.requires (read_list (c.args.left - 1)) _ c.term_arg-in-Expr.ensures)
 
 pub term_list-loop-rest-smaller : goal.term_list-loop-rest-smaller
 term_list-loop-rest-smaller t c =

@@ -13,25 +13,22 @@ one-returns t c =
 pub term_arg-returns-in-Bytes : goal.term_arg-returns-in-Bytes
 term_arg-returns-in-Bytes t c =
     reaches.term-arm _ _ _ (omega (arith, c.if-left-eq0.false)) c.in-len1-up.len_at_least _ _ c.term_op.ensures c.in-Bytes.is _
-    (reaches.next_one (read_bytes c.in-Bytes.n) (λ (x : Term). x) _ _ _ _ _ c.next.ensures.place c.next.ensures.bytes c.constant.ensures)
+    (reaches.next_one (read_bytes c.in-Bytes.n) (λ (x : Term). x) _ _ _ _ _ c.next-behind.ensures.place c.next-behind.ensures.bytes c.constant.ensures)
 
 pub term_arg-returns-in-Step : goal.term_arg-returns-in-Step
 term_arg-returns-in-Step t c =
-    let n = c.next-in-Step in
     reaches.term-arm _ _ _ (omega (arith, c.if-left-eq0.false)) c.in-len1-up.len_at_least _ _ c.term_op.ensures c.in-Step.is _
-    (reaches.next_one read_place (step c.in-Step.field-0) _ _ _ _ _ n.ensures.place n.ensures.bytes c.cell.ensures)
+    (reaches.next_one read_place (step c.in-Step.field-0) _ _ _ _ _ c.next-behind.ensures.place c.next-behind.ensures.bytes c.cell.ensures)
 
 pub term_arg-returns-in-One : goal.term_arg-returns-in-One
 term_arg-returns-in-One t c =
-    let n = c.next-in-One in
     reaches.term-arm _ _ _ (omega (arith, c.if-left-eq0.false)) c.in-len1-up.len_at_least _ _ c.term_op.ensures c.in-One.is _
-    (reaches.next_one (read_one (read_term (c.args.left - 1)) c.in-One.d) (one_of c.in-One.field-0) _ _ _ _ _ n.ensures.place n.ensures.bytes c.one.ensures)
+    (reaches.next_one (read_one (read_term (c.args.left - 1)) c.in-One.d) (one_of c.in-One.field-0) _ _ _ _ _ c.next-behind.ensures.place c.next-behind.ensures.bytes c.one.ensures)
 
 pub term_arg-returns-in-Two : goal.term_arg-returns-in-Two
 term_arg-returns-in-Two t c =
-    let n = c.next-in-Two in
     reaches.term-arm _ _ _ (omega (arith, c.if-left-eq0.false)) c.in-len1-up.len_at_least _ _ c.term_op.ensures c.in-Two.is _
-    (reaches.next_one (read_two (read_term (c.args.left - 1)) c.in-Two.d) (two_of c.in-Two.field-0) _ _ _ _ _ n.ensures.place n.ensures.bytes c.two.ensures)
+    (reaches.next_one (read_two (read_term (c.args.left - 1)) c.in-Two.d) (two_of c.in-Two.field-0) _ _ _ _ _ c.next-behind.ensures.place c.next-behind.ensures.bytes c.two.ensures)
 
 pub two-returns : goal.two-returns
 unfolding read_two

@@ -6,36 +6,36 @@ use Rattle.grammar.proofs.Packages.{package-no, package-other, package-early, pa
 use Rattle.grammar.proofs.unread.Unread.pkg.Goals as goal
 
 pub returns-then-raw-used : goal.returns-then-raw-used
-returns-then-raw-used c = let u = c.args.self in package-early u.bytes.now (omega (arith, u.short)) u.place _ c.in-Ok.ensures c.if-raw-used.true
+returns-then-raw-used c = let u = c.args.self.now in package-early u.bytes.now (omega (arith, u.short)) u.place _ c.in-Ok.ensures c.if-raw-used.true
 
 pub returns-else-raw-used : goal.returns-else-raw-used
-returns-else-raw-used c = let u = c.args.self in package-yes u.bytes.now (omega (arith, u.short)) u.place _ c.in-Ok.ensures c.if-raw-used.false
+returns-else-raw-used c = let u = c.args.self.now in package-yes u.bytes.now (omega (arith, u.short)) u.place _ c.in-Ok.ensures c.if-raw-used.false
 
 pub overflow_add-result : goal.overflow_add-result
 overflow_add-result c =
-    let u = c.args.self in
+    let u = c.args.self.now in
     let k = package-no u.bytes.now (omega (arith, u.short)) u.place _ c.in-Err.ensures in
     let i : (paper c.in-Err.e).1 ≡ c.in-UnexpectedEndOfStream.end = ap (λ (x : AmlError). (paper x).1) c.in-UnexpectedEndOfStream.is in
     omega (arith, k.1, i, u.short)
 
 pub overflow_add-result-in-InvalidPkgLength : goal.overflow_add-result-in-InvalidPkgLength
 overflow_add-result-in-InvalidPkgLength c =
-    let u = c.args.self in
+    let u = c.args.self.now in
     let k = package-no u.bytes.now (omega (arith, u.short)) u.place _ c.in-Err.ensures in
     let i : (paper c.in-Err.e).1 ≡ c.in-InvalidPkgLength.lead = ap (λ (x : AmlError). (paper x).1) c.in-InvalidPkgLength.is in
     omega (arith, k.1, i, u.short)
 
 pub returns-in-UnexpectedEndOfStream : goal.returns-in-UnexpectedEndOfStream
 returns-in-UnexpectedEndOfStream c =
-    let u = c.args.self in
+    let u = c.args.self.now in
     rw c.in-UnexpectedEndOfStream.is at (package-no u.bytes.now (omega (arith, u.short)) u.place _ c.in-Err.ensures).0
 
 pub returns-in-InvalidPkgLength : goal.returns-in-InvalidPkgLength
 returns-in-InvalidPkgLength c =
-    let u = c.args.self in
+    let u = c.args.self.now in
     rw c.in-InvalidPkgLength.is at (package-no u.bytes.now (omega (arith, u.short)) u.place _ c.in-Err.ensures).0
 
 pub returns-in_default : goal.returns-in_default
 returns-in_default c =
-    let u = c.args.self in
+    let u = c.args.self.now in
     package-other u.bytes.now (omega (arith, u.short)) u.place _ c.in-Err.ensures c.in_default.not-UnexpectedEndOfStream c.in_default.not-InvalidPkgLength

@@ -20,7 +20,7 @@ pub loop-i-preserved : goal.loop-i-preserved
 loop-i-preserved c =
     let l = c.loop-i in
     let len = c.args.path.now.sized in
-    (l.invariant.0, simp length-set l.invariant.1, keys-turn component_limit c.args.path.now.name len c.args.path.now.settled l.keys l.i _ (omega arith) (omega arith) (omega arith) l.invariant.2 (c.number.ensures ∙ ap (λ (l : List ℕ). number (get_or l 0 0) (get_or l 1 0) (get_or l 2 0) (get_or l 3 0)) c.component.ensures))
+    (l.invariant.0, simp length-set l.invariant.1, keys-turn component_limit c.args.path.now.name len c.args.path.now.settled l.keys l.i _ (omega arith) (omega arith) (omega arith) l.invariant.2 (c.number.ensures ∙ ap (λ (l : List ℕ). number (get_or l 0 0) (get_or l 1 0) (get_or l 2 0) (get_or l 3 0)) c.component-characters.ensures))
 
 pub invariant_of-result : goal.invariant_of-result
 invariant_of-result c =
