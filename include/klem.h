@@ -77,7 +77,7 @@ extern "C" {
 #define KLEM_TEXT_BYTES 159      /* bytes of the longest text of a path, without an end mark */
 #define KLEM_IMAGE_BYTES 7599    /* bytes of the largest image of a table */
 #define KLEM_DEPTH 16            /* how deep statements and terms may stand in each other */
-#define KLEM_STACK 10240         /* bytes of stack that a check or a run needs at the most */
+#define KLEM_STACK 8704          /* bytes of stack that a check or a run needs at the most */
 #define KLEM_STACK_OTHER 3500    /* bytes of stack that any other call needs at the most */
 
 /* The table of refusals */

@@ -9,7 +9,7 @@ use native.Mathlib.Numerals.{add-one}
 use lib.ListN.{length, take, drop, get_or, length-drop, drop_of_length-le}
 use lib.Seq.{drop-cons, drop-nil}
 use borrow.Author.Tests.{le-leb, lt-leb, ne_eqb}
-use Rattle.pkg_length.specs.Refusal.{Answer, gives, refuses}
+use Rattle.pkg_length.specs.Refusal.{Answer, gives, refuses, refused}
 use Rattle.pkg_length.specs.declared.Raw.{Raw}
 use Rattle.grammar.specs.declared.opcode.TermOp.{TermOp}
 use Rattle.grammar.specs.declared.opcode.StmtOp.{StmtOp}
@@ -19,6 +19,10 @@ use Rattle.grammar.specs.Tree.{Term, Stmt, expr, Stmts, cons}
 use Rattle.grammar.specs.Grammar.{depth_limit}
 use Rattle.grammar.specs.Reader.{Read, took, reads, then_read, term_by, read_term, read_package, Head, head, read_head, else_by, read_else, stmt_by, list_by, read_stmt, read_list}
 use Rattle.grammar.specs.Said.{up_to, read_through}
+use Rattle.grammar.specs.Stop.{error_of, stopped}
+use Rattle.grammar.specs.declared.stop.Stop.{Stop}
+use Rattle.pkg_length.proofs.Answers.{residual_of}
+use Rattle.std.specs.Prelude.{Result, IsErr, IsErrAnd}
 use Rattle.grammar.proofs.Answers.{Takes}
 use Rattle.pkg_length.proofs.Packages.{Packs}
 use Rattle.grammar.proofs.Packages.{package-sound}
@@ -63,6 +67,10 @@ module _ {A : Type 0} where
   pub through-no : (R : Answer (Read A)) (c p : ℕ) → refuses c p ≡ read_through R → R ≡ refuses c p
   through-no (gives (took a k)) c p e = absurd (cc)
   through-no (refuses n m) c p e = let x : n ≡ c = cc in let y : m ≡ p = cc in rw (x, y)
+
+-- what `?` hands on is the refusal that it met
+pub residual : {A : Type 0} (r : Result A Stop) (s : Stop) → IsErr r × IsErrAnd r (λ x. x ≡ s) → stopped r ≡ refused (error_of s.0)
+residual r s h = residual_of (λ q. stopped q ≡ refused (error_of s.0)) r s h refl
 
 -- a refusal stands, whatever follows
 pub stops : {A B : Type 0} (p : ℕ) (R : Answer (Read A)) (f : A → ℕ → Answer (Read B)) (c n : ℕ) → refuses c n ≡ up_to p R → refuses c n ≡ up_to p (then_read R f)

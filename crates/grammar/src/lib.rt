@@ -7,6 +7,7 @@ use pkg_length::AmlError;
 
 pub mod opcode;
 mod read;
+mod stop;
 mod term;
 mod unread;
 
@@ -26,5 +27,5 @@ pub fn check(block: &[u8]) -> Result<(), AmlError>
         bytes: block,
         place: 0,
     };
-    whole.term_list(DEPTH)
+    Ok(whole.term_list(DEPTH)?)
 }

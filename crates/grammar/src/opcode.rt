@@ -154,6 +154,9 @@ pub fn is_cell(b: u8) -> bool
 }
 
 // The table of terms. No From: `term_op(b)` says that the byte is an opcode, and `TermOp::from(b)` would not.
+// Inlined, so that a byte's row leads at once to what is done with it: a term is looked up where it is read and where it runs, and the compiler joined the two for the table
+// of before R-7 alone.
+#[inline(always)]
 #[tactic(auto, unfolding(crate::specs::Opcode::term_op_at, crate::specs::Opcode::look))]
 pub fn term_op(b: u8) -> TermOp
     ensures { result ≡ term_op_at b }

@@ -42,7 +42,8 @@ fn put_flags(words: &mut [u64; FRAME], set: &[bool; CELLS])
     }
 }
 
-// The frame that words hold.
+// The frame that words hold. Inlined, here and below: a call that wants one cell or a fresh frame moves no other.
+#[inline(always)]
 pub(crate) fn frame_in(words: &[u64; FRAME]) -> Result<Frame, Fault>
     ensures { result ≡ frame_read words.now }
 {
@@ -53,6 +54,7 @@ pub(crate) fn frame_in(words: &[u64; FRAME]) -> Result<Frame, Fault>
     Ok(Frame { set, val, width })
 }
 
+#[inline(always)]
 pub(crate) fn put_frame(words: &mut [u64; FRAME], frame: &Frame)
     ensures { words.new ≡ frame_words frame.now }
 {

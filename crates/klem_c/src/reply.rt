@@ -91,7 +91,8 @@ pub(crate) fn tell<T: Words>(res: &mut [u64; RESULT], answer: Result<T, AmlError
     write(res, answered(answer))
 }
 
-// The same, and the path to `out` where there is one.
+// The same, and the path to `out` where there is one. Inlined, and so is `put_path`: a path that a call makes goes to `out` and nowhere else.
+#[inline(always)]
 pub(crate) fn tell_path<T: Named>(
     out: &mut [u8; PATH],
     res: &mut [u64; RESULT],

@@ -28,6 +28,7 @@ pub(crate) fn path_in(src: &[u8]) -> Option<AmlName>
     Some(AmlName { count, bytes })
 }
 
+#[inline(always)]
 pub(crate) fn put_path(out: &mut [u8; PATH], name: &AmlName)
     ensures { out.new ≡ path_bytes name.now }
 {

@@ -49,9 +49,9 @@ pub refuses-as : {A B : Type 0} {n p k q : ℕ} → ◌≡◌ {A = Answer A} (re
 refuses-as {n = n} {p = p} {k = k} {q = q} h = let x : n ≡ k = cc in let y : p ≡ q = cc in cc
 
 -- what `?` hands on is the refusal that it met: whatever holds of that
-pub residual_of : {A : Type 0} (P : Result A AmlError → Type 0) (r : Result A AmlError) (e : AmlError) → IsErr r × IsErrAnd r (λ x. x ≡ e) → P (Err e) → P r
+pub residual_of : {A E : Type 0} (P : Result A E → Type 0) (r : Result A E) (e : E) → IsErr r × IsErrAnd r (λ x. x ≡ e) → P (Err e) → P r
 residual_of P (Ok a) e (h, k) p = never h
-residual_of P (Err x) e (h, k) p = subst (λ (y : AmlError). P (Err y)) (sym k) p
+residual_of {E = E} P (Err x) e (h, k) p = subst (λ (y : E). P (Err y)) (sym k) p
 
 pub residual : {A : Type 0} (r : Result A AmlError) (e : AmlError) → IsErr r × IsErrAnd r (λ x. x ≡ e) → said r ≡ refused e
 residual r e h = residual_of (λ s. said s ≡ refused e) r e h refl

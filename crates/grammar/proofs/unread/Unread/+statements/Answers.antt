@@ -3,7 +3,7 @@ use Rattle.std.proofs.Common.{◌-◌, ◌∙◌, length-drop, arith}
 use Rattle.grammar.specs.Tree.{Stmt, return}
 use Rattle.grammar.specs.Grammar.{depth_limit}
 use Rattle.grammar.specs.Reader.{read_term, read_list, if_of, while_of, read_head, read_else, read_if}
-use Rattle.pkg_length.proofs.Answers.{residual}
+use Rattle.grammar.proofs.Reaches.{residual}
 use Rattle.grammar.proofs.Reaches as reaches
 use Rattle.grammar.proofs.unread.Unread.+statements.Goals as goal
 
@@ -32,7 +32,8 @@ predicate_and_body-returns-in_err-body t c =
 
 pub predicate_and_body-returns-then-end-body : goal.predicate_and_body-returns-then-end-body
 predicate_and_body-returns-then-end-body t c =
-    reaches.head-short _ _ _ _ c.in_ok-package.ensures _ _ c.onward-part.ensures.place c.onward-part.ensures.bytes _ c.in_ok-body.ensures c.if-end-body.true
+    rw c.new.ensures
+    (reaches.head-short _ _ _ _ c.in_ok-package.ensures _ _ c.onward-part.ensures.place c.onward-part.ensures.bytes _ c.in_ok-body.ensures c.if-end-body.true)
 
 pub predicate_and_body-returns-in_err-term_list : goal.predicate_and_body-returns-in_err-term_list
 predicate_and_body-returns-in_err-term_list t c =
@@ -48,17 +49,17 @@ predicate_and_body-returns t c =
 pub statement_opcode-returns-in-Return : goal.statement_opcode-returns-in-Return
 statement_opcode-returns-in-Return t c =
     reaches.stmt-arm _ _ _ (omega (arith, c.if-left-eq0.false)) c.requires _ _ c.stmt_op.ensures c.in-Return.is _
-    (reaches.next_one (read_term depth_limit) return _ _ _ _ _ c.next-part.ensures.place c.next-part.ensures.bytes c.term_arg.ensures)
+    (reaches.next_one (read_term depth_limit) return _ _ _ _ _ c.next.ensures.place c.next.ensures.bytes c.term_arg.ensures)
 
 pub statement_opcode-returns-in-If : goal.statement_opcode-returns-in-If
 statement_opcode-returns-in-If t c =
     reaches.stmt-arm _ _ _ (omega (arith, c.if-left-eq0.false)) c.requires _ _ c.stmt_op.ensures c.in-If.is _
-    (reaches.next_one (read_if (read_list (c.args.left - 1))) (λ (x : Stmt). x) _ _ _ _ _ c.next-part.ensures.place c.next-part.ensures.bytes c.def_if_else.ensures)
+    (reaches.next_one (read_if (read_list (c.args.left - 1))) (λ (x : Stmt). x) _ _ _ _ _ c.next-in-If.ensures.place c.next-in-If.ensures.bytes c.def_if_else.ensures)
 
 pub statement_opcode-returns-in-While : goal.statement_opcode-returns-in-While
 statement_opcode-returns-in-While t c =
     reaches.stmt-arm _ _ _ (omega (arith, c.if-left-eq0.false)) c.requires _ _ c.stmt_op.ensures c.in-While.is _
-    (reaches.next_one (read_head (read_list (c.args.left - 1))) while_of _ _ _ _ _ c.next-part.ensures.place c.next-part.ensures.bytes c.predicate_and_body.ensures)
+    (reaches.next_one (read_head (read_list (c.args.left - 1))) while_of _ _ _ _ _ c.next-in-While.ensures.place c.next-in-While.ensures.bytes c.predicate_and_body.ensures)
 
 pub statement_opcode-returns-in-Expr : goal.statement_opcode-returns-in-Expr
 statement_opcode-returns-in-Expr t c =
