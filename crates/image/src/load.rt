@@ -11,7 +11,7 @@ ghost use Rattle.image.specs.Inside.{Walk, all_bound, Accepted, loaded};
 
 use crate::layout::{BINDING_BITS, DEPTH_BITS, HANDLE_BITS, HEADER_BITS, LEVEL_BITS};
 use crate::{Counts, bits, layout, segments};
-use table::layout::{BindingWord, COUNT_AT, LEVELS, LevelWord, VALUES_AT};
+use table::layout::{COUNT_AT, LEVELS, VALUES_AT};
 
 // A level's word, of a record and a count of bindings.
 fn level_word(bytes: &[u8], at: usize, count: usize) -> u64
@@ -22,7 +22,7 @@ fn level_word(bytes: &[u8], at: usize, count: usize) -> u64
     let typ = bits::field(bytes, at + DEPTH_BITS, 3);
     let chars = bits::field(bytes, at + DEPTH_BITS + 3, 32);
     let segment = segments::number(chars);
-    LevelWord::new(depth + 1, typ, count, segment).0
+    table::inner::packed_level(depth + 1, typ, count, segment).0
 }
 
 // The levels' words, the root's first.
@@ -32,7 +32,7 @@ fn levels(bytes: &[u8], words: &mut [u64], n: usize)
 {
     let root = HEADER_BITS + n * LEVEL_BITS;
     let own = bits::field(bytes, root, 10) as usize;
-    words[0] = LevelWord::new(1, 0, own, 0).0;
+    words[0] = table::inner::packed_level(1, 0, own, 0).0;
     let mut at = root + 10 + own * BINDING_BITS;
     for k in 0..n {
         let count = bits::field(bytes, at, 10) as usize;
@@ -50,7 +50,7 @@ fn binding_word(bytes: &[u8], at: usize) -> u64
     let chars = bits::field(bytes, at, 32);
     let handle = bits::field(bytes, at + 32, HANDLE_BITS);
     let segment = segments::number(chars);
-    BindingWord::new(segment, handle as u32).0
+    table::inner::packed_binding(segment, handle as u32).0
 }
 
 // The words of things that stand one behind the other in an image, each so many bits wide.

@@ -1,5 +1,5 @@
 -- The call that lists the levels, whole (02, R-8): memory is tested first (24), then the path (26, 11, 10), then that it names a live level (15), then the room in the list (25).
-use Rattle.std.specs.Prelude.{cond, List, ◌++◌, map, ℕ, eqb, leb, length, drop, Result, Ok, Err}
+use Rattle.std.specs.Prelude.{cond, codes, List, ◌++◌, map, ℕ, eqb, leb, length, drop, Result, Ok, Err}
 use Rattle.pkg_length.specs.Refusal.{Answer, gives, refuses, and_then}
 use Rattle.name_object.specs.declared.AmlName.{AmlName}
 use Rattle.table.specs.Limits.{Limits}
@@ -20,6 +20,15 @@ type_of_level n =
 -- the type of a number, if one has it
 abbrev pub type_numbered : ℕ → Result LevelType UnknownType
 type_numbered n = cond (leb n 5) (Ok (type_of_level n)) (Err (record { 0 = n }))
+
+-- the name that a type prints
+abbrev pub type_name : LevelType → List ℕ
+type_name Scope = codes "Scope"
+type_name Device = codes "Device"
+type_name Processor = codes "Processor"
+type_name PowerResource = codes "PowerResource"
+type_name ThermalZone = codes "ThermalZone"
+type_name MethodLocals = codes "MethodLocals"
 
 -- a level as the list holds it: its depth, its type, and its segment's four bytes
 abbrev pub record_of_word : Listed → LevelRecord

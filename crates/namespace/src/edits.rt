@@ -14,7 +14,7 @@ use crate::lent::Table;
 use crate::{AmlHandle, LevelType};
 use pkg_length::AmlError;
 use table::inner::{Place, Sought};
-use table::layout::{BindingWord, COUNT_AT, LAST_LEVEL, LEVELS, LevelWord, OBJECTS, VALUES_AT};
+use table::layout::{COUNT_AT, LAST_LEVEL, LEVELS, OBJECTS, VALUES_AT};
 
 // Adds a level of that type at the path.
 pub(crate) fn add_level(table: &mut [u64], path: &Keys, typ: LevelType) -> Result<(), AmlError>
@@ -33,7 +33,7 @@ pub(crate) fn add_level(table: &mut [u64], path: &Keys, typ: LevelType) -> Resul
             if table[LAST_LEVEL] != 0 {
                 return Err(AmlError::LevelsFull);
             }
-            let word = LevelWord::new(n, u64::from(typ), 0, keys[n - 1]);
+            let word = table::inner::packed_level(n, u64::from(typ), 0, keys[n - 1]);
             table::inner::make_room(&mut table[..LEVELS], k, word.0);
             Ok(())
         }
@@ -68,7 +68,7 @@ fn bind_at(table: &mut [u64], path: &Keys, place: Place, handle: AmlHandle)
     ensures { table.new ≡ bind_words limits table.old place.level place.binding (last_of path.now * 2 ^ 32 + handle.0) }
 {
     let keys = path.as_slice();
-    let word = BindingWord::new(keys[keys.len() - 1], handle.0);
+    let word = table::inner::packed_binding(keys[keys.len() - 1], handle.0);
     table::inner::bind(table, place, word.0);
 }
 

@@ -80,11 +80,12 @@ impl<'a> Table<'a> {
         ensures { said_as found_hit result ≡ told component_limit (search_up_answer limits (decode limits self.now.words.now) (segment_of segment) (path_of_name scope.now.name)) }
     {
         let keys = Keys::of(scope);
+        let wanted = table::segments::number(segment.0);
         let found = table::inner::nearest_value(
             &self.words[..LEVELS],
             &self.words[LEVELS..COUNT_AT],
             keys.as_slice(),
-            table::segments::number(segment.0),
+            wanted,
         );
         match found {
             None => Err(AmlError::ValueDoesNotExist),

@@ -41,6 +41,11 @@ pub enum LevelType {
 
 // A type's name.
 impl fmt::Display for LevelType {
+    ghost use Rattle.std.specs.Prelude.{Some};
+    ghost use Rattle.namespace.specs.Levels.{type_name};
+
+    ghost output = { λ typ. Some (type_name typ) };
+
     fn fmt<W: fmt::Write>(&self, f: &mut fmt::Formatter<W>) -> fmt::Result {
         f.write_str(match self {
             LevelType::Scope => "Scope",

@@ -118,6 +118,11 @@ impl From<AmlError> for Refusal {
 
 // A refusal's name in the table. By hand: the derived Debug prints the place too, and these are the table's names.
 impl fmt::Display for AmlError {
+    ghost use Rattle.std.specs.Prelude.{Some};
+    ghost use Rattle.pkg_length.specs.Names.{refusal_name};
+
+    ghost output = { λ e. Some (refusal_name e) };
+
     fn fmt<W: fmt::Write>(&self, f: &mut fmt::Formatter<W>) -> fmt::Result {
         f.write_str(match self {
             AmlError::UnexpectedEndOfStream(_) => "UnexpectedEndOfStream",

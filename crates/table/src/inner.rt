@@ -25,24 +25,21 @@ const BEFORE: u64 = FIRST_SEGMENT * SEGMENT - 1;
 // The word behind every binding's.
 const PAST: u64 = SEGMENTS_END * SEGMENT;
 
-impl LevelWord {
-    // The word of a level with that many components, of a type's number, with that many bindings and of a segment's number. LevelType stands above, in namespace.
-    #[tactic(auto, unfolding(crate::specs::Layout::pack))]
-    pub fn new(rank: usize, typ: u64, count: usize, segment: u64) -> LevelWord
-        requires { (rank < 2 ^ 19) × (typ < 8) × (count < 1024) × (segment < 2 ^ 32) }
-        ensures { result.0 ≡ pack rank typ count segment }
-    {
-        LevelWord(rank as u64 * RANK + typ * TYPE + count as u64 * COUNT + segment)
-    }
+// The word of a level with that many components, of a type's number, with that many bindings and of a segment's number. LevelType stands above, in namespace.
+// No method, here and below: what asks something of its callers is named by `inner` alone.
+#[tactic(auto, unfolding(crate::specs::Layout::pack))]
+pub fn packed_level(rank: usize, typ: u64, count: usize, segment: u64) -> LevelWord
+    requires { (rank < 2 ^ 19) × (typ < 8) × (count < 1024) × (segment < 2 ^ 32) }
+    ensures { result.0 ≡ pack rank typ count segment }
+{
+    LevelWord(rank as u64 * RANK + typ * TYPE + count as u64 * COUNT + segment)
 }
 
-impl BindingWord {
-    pub fn new(segment: u64, handle: u32) -> BindingWord
-        requires { segment < 2 ^ 32 }
-        ensures { result.0 ≡ bind_word (record { segment = segment; handle = handle }) }
-    {
-        BindingWord(segment * SEGMENT + handle as u64)
-    }
+pub fn packed_binding(segment: u64, handle: u32) -> BindingWord
+    requires { segment < 2 ^ 32 }
+    ensures { result.0 ≡ bind_word (record { segment = segment; handle = handle }) }
+{
+    BindingWord(segment * SEGMENT + handle as u64)
 }
 
 // A number is a segment.

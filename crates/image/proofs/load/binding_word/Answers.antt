@@ -13,5 +13,5 @@ pub overflow_cast-handle : goal.overflow_cast-handle
 overflow_cast-handle c =
     let a = c.args in record { fits = omega (arith, c.field-handle.ensures, number-at-low (bits_in a.bytes.now) 10 (a.at + 32)) }
 
-pub new-requires : goal.new-requires
-new-requires c = omega (arith, c.number-segment.ensures, segment-number-low c.field-chars.result)
+pub packed_binding-requires : goal.packed_binding-requires
+packed_binding-requires c = omega (arith, c.number-segment.ensures, segment-number-low c.field-chars.result)

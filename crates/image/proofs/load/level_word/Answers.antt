@@ -12,8 +12,8 @@ number-segment-requires c = let a = c.args in rw c.field-chars.ensures (number-a
 pub overflow_add-depth : goal.overflow_add-depth
 overflow_add-depth c = let a = c.args in record { fits = omega (arith, c.field-depth.ensures, number-at-low (bits_in a.bytes.now) 6 a.at) }
 
-pub new-requires : goal.new-requires
-new-requires c =
+pub packed_level-requires : goal.packed_level-requires
+packed_level-requires c =
     let a = c.args in (
       omega (arith, c.field-depth.ensures, number-at-low (bits_in a.bytes.now) 6 a.at),
       rw c.field-typ.ensures (number-at-low (bits_in a.bytes.now) 3 (a.at + 6)),

@@ -27,8 +27,8 @@ field-own-requires c =
     let w = c.requires.4.1 in
     (omega (arith, w.0, length-bits_in a.bytes.now), search rules, search rules)
 
-pub new-requires : goal.new-requires
-new-requires c =
+pub packed_level-requires : goal.packed_level-requires
+packed_level-requires c =
     let a = c.args in
     (search rules, search rules, rw c.field-own.ensures (number-at-low (bits_in a.bytes.now) 10 (32 + a.n * 41)), search rules)
 
@@ -45,7 +45,7 @@ loop-k-init c =
     let a = c.args in
     let r = c.requires.4 in
     record {
-      all = root-first (bits_in a.bytes.now) a.n a.words.now c.field-own.result c.new.result.0 (32 + a.n * 41 + 10 + c.field-own.result * 42) (search rules) c.new.ensures c.field-own.ensures refl;
+      all = root-first (bits_in a.bytes.now) a.n a.words.now c.field-own.result c.packed_level.result.0 (32 + a.n * 41 + 10 + c.field-own.result * 42) (search rules) c.packed_level.ensures c.field-own.ensures refl;
       kept = refl;
       long = refl;
       walk = (r.0 - count_at (bits_in a.bytes.now) (32 + a.n * 41), started (bits_in a.bytes.now) a.n r.0 c.field-own.result c.field-own.ensures r.1.2);
@@ -91,9 +91,9 @@ loop-k-preserved c =
     let l = c.loop-k in
     let bs = bits_in a.bytes.now in
     let w = walk_step first_edition bs a.n l.k l.at l.invariant.walk.0 (search rules) l.invariant.walk.1 in
-    let first = set a.words.now 0 c.new.result.0 in
+    let first = set a.words.now 0 c.packed_level.result.0 in
     let v = c.level_word.result in
-    let h : l.k + 1 < length l.words = omega (arith, l.invariant.long, length-set a.words.now 0 c.new.result.0, c.requires.0) in
+    let h : l.k + 1 < length l.words = omega (arith, l.invariant.long, length-set a.words.now 0 c.packed_level.result.0, c.requires.0) in
     let z = after_is bs l.at c.field-count.result c.field-count.ensures in
     record {
       all = put_next l.words first (l.k + 1) v h
@@ -119,7 +119,7 @@ returns c =
     let l = c.loop-k in
     let bs = bits_in a.bytes.now in
     let z : a.n - l.k ≡ 0 = search rules in
-    finished l.words (set a.words.now 0 c.new.result.0) (all_words first_edition bs a.n) (l.k + 1) (suc a.n) (search rules)
+    finished l.words (set a.words.now 0 c.packed_level.result.0) (all_words first_edition bs a.n) (l.k + 1) (suc a.n) (search rules)
     (sym (ap (λ (j : ℕ). take (l.k + 1) l.words ++ level_words first_edition bs j (32 + l.k * 41) l.at) z
     ∙ level-word-none (take (l.k + 1) l.words) bs (32 + l.k * 41) l.at) ∙ l.invariant.all) l.invariant.kept
-    ∙ ap (λ (r : List ℕ). all_words first_edition bs a.n ++ r) (drop-set-lt (suc a.n) a.words.now 0 c.new.result.0 (omega arith))
+    ∙ ap (λ (r : List ℕ). all_words first_edition bs a.n ++ r) (drop-set-lt (suc a.n) a.words.now 0 c.packed_level.result.0 (omega arith))

@@ -61,4 +61,4 @@ returns-else-table-ne0 c =
     rw (← c.as_slice-keys.ensures.is)
     (added_new limits (omega arith) c.args.table.now c.requires c.as_slice-keys.result.now (number_of_type c.args.typ) (omega arith) c.seek.result c.seek.ensures (omega arith) c.in-Before.k c.in-Before.is c.if-table-ne0.false _
     (c.make_room.ensures ∙ ap (λ (w : ℕ). take c.in-Before.k (take limits.levels c.args.table.now) ++ push w (drop c.in-Before.k (take limits.levels c.args.table.now)))
-    (c.new-word.ensures ∙ ap (λ (t : ℕ). pack (length c.as_slice-keys.result.now) t 0 (last_of c.as_slice-keys.result.now)) c.from.ensures ∙ packed (length c.as_slice-keys.result.now) (number_of_type c.args.typ) (last_of c.as_slice-keys.result.now))))
+    (c.packed_level-word.ensures ∙ ap (λ (t : ℕ). pack (length c.as_slice-keys.result.now) t 0 (last_of c.as_slice-keys.result.now)) c.from.ensures ∙ packed (length c.as_slice-keys.result.now) (number_of_type c.args.typ) (last_of c.as_slice-keys.result.now))))

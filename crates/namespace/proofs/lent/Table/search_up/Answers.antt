@@ -30,17 +30,17 @@ nearest_value-found-requires c =
 
 pub returns-in-None : goal.returns-in-None
 returns-in-None c =
-    ap (told component_limit) (sym (up_none c.args.self.now.words.now c.args.self.now.formed c.args.scope.now.name (segment_of c.args.segment) c.nearest_value-found.result (c.nearest_value-found.ensures ∙ ap₂ (λ (k : ℕ) (p : List ℕ). nearest_of (deepest (value_held (take limits.levels c.args.self.now.words.now) (take limits.bindings (drop limits.levels c.args.self.now.words.now)) p k) (length p))) c.number.ensures (c.as_slice.ensures.is ∙ c.of-keys.ensures)) c.in-None.is))
+    ap (told component_limit) (sym (up_none c.args.self.now.words.now c.args.self.now.formed c.args.scope.now.name (segment_of c.args.segment) c.nearest_value-found.result (c.nearest_value-found.ensures ∙ ap₂ (λ (k : ℕ) (p : List ℕ). nearest_of (deepest (value_held (take limits.levels c.args.self.now.words.now) (take limits.bindings (drop limits.levels c.args.self.now.words.now)) p k) (length p))) c.number-wanted.ensures (c.as_slice.ensures.is ∙ c.of-keys.ensures)) c.in-None.is))
 
 pub around-requires : goal.around-requires
-around-requires c = up-range c.args.self.now.words.now c.args.self.now.formed c.args.scope.now.name (segment_of c.args.segment) c.nearest_value-found.result (c.nearest_value-found.ensures ∙ ap₂ (λ (k : ℕ) (p : List ℕ). nearest_of (deepest (value_held (take limits.levels c.args.self.now.words.now) (take limits.bindings (drop limits.levels c.args.self.now.words.now)) p k) (length p))) c.number.ensures (c.as_slice.ensures.is ∙ c.of-keys.ensures)) c.in-Some.nearest c.in-Some.is
+around-requires c = up-range c.args.self.now.words.now c.args.self.now.formed c.args.scope.now.name (segment_of c.args.segment) c.nearest_value-found.result (c.nearest_value-found.ensures ∙ ap₂ (λ (k : ℕ) (p : List ℕ). nearest_of (deepest (value_held (take limits.levels c.args.self.now.words.now) (take limits.bindings (drop limits.levels c.args.self.now.words.now)) p k) (length p))) c.number-wanted.ensures (c.as_slice.ensures.is ∙ c.of-keys.ensures)) c.in-Some.nearest c.in-Some.is
 
 pub overflow_sub-result : goal.overflow_sub-result
-overflow_sub-result c = (up-range c.args.self.now.words.now c.args.self.now.formed c.args.scope.now.name (segment_of c.args.segment) c.nearest_value-found.result (c.nearest_value-found.ensures ∙ ap₂ (λ (k : ℕ) (p : List ℕ). nearest_of (deepest (value_held (take limits.levels c.args.self.now.words.now) (take limits.bindings (drop limits.levels c.args.self.now.words.now)) p k) (length p))) c.number.ensures (c.as_slice.ensures.is ∙ c.of-keys.ensures)) c.in-Some.nearest c.in-Some.is).0
+overflow_sub-result c = (up-range c.args.self.now.words.now c.args.self.now.formed c.args.scope.now.name (segment_of c.args.segment) c.nearest_value-found.result (c.nearest_value-found.ensures ∙ ap₂ (λ (k : ℕ) (p : List ℕ). nearest_of (deepest (value_held (take limits.levels c.args.self.now.words.now) (take limits.bindings (drop limits.levels c.args.self.now.words.now)) p k) (length p))) c.number-wanted.ensures (c.as_slice.ensures.is ∙ c.of-keys.ensures)) c.in-Some.nearest c.in-Some.is).0
 
 pub overflow_add-result : goal.overflow_add-result
 overflow_add-result c = omega (arith, settled-count component_limit c.args.scope.now.name c.args.scope.now.settled)
 
 pub returns-in-Some : goal.returns-in-Some
 returns-in-Some c =
-    up-found c.args.self.now.words.now c.args.self.now.formed c.args.scope.now.name (segment_of c.args.segment) c.nearest_value-found.result (c.nearest_value-found.ensures ∙ ap₂ (λ (k : ℕ) (p : List ℕ). nearest_of (deepest (value_held (take limits.levels c.args.self.now.words.now) (take limits.bindings (drop limits.levels c.args.self.now.words.now)) p k) (length p))) c.number.ensures (c.as_slice.ensures.is ∙ c.of-keys.ensures)) c.in-Some.nearest c.in-Some.is c.around.result c.around.ensures
+    up-found c.args.self.now.words.now c.args.self.now.formed c.args.scope.now.name (segment_of c.args.segment) c.nearest_value-found.result (c.nearest_value-found.ensures ∙ ap₂ (λ (k : ℕ) (p : List ℕ). nearest_of (deepest (value_held (take limits.levels c.args.self.now.words.now) (take limits.bindings (drop limits.levels c.args.self.now.words.now)) p k) (length p))) c.number-wanted.ensures (c.as_slice.ensures.is ∙ c.of-keys.ensures)) c.in-Some.nearest c.in-Some.is c.around.result c.around.ensures
