@@ -14,20 +14,33 @@ impl<'a> fmt::Display for List<'a> {
         write!(f, "{}", self.0.len())?;
         for word in self.0 {
             let level = listing::read(*word);
-            let typ = u64::from(level.typ);
-            let segment = level.segment;
-            write!(f, " {}/{typ}/{}", level.depth, text(&segment, "-"))?;
+            let tens = digit(level.depth / 10);
+            let [a, b, c, d] = level.segment;
+            // Written at once: a write for each of its parts takes half as long again.
+            let item = [
+                if tens == b'0' { b' ' } else { tens },
+                digit(level.depth),
+                b'/',
+                digit(u64::from(level.typ) as usize),
+                b'/',
+                if a == 0 { b'-' } else { a },
+                b,
+                c,
+                d,
+            ];
+            if tens != b'0' {
+                f.write_str(" ")?;
+            }
+            let length = if a == 0 { 6 } else { 9 };
+            f.write_str(str::from_utf8(&item[..length]).unwrap_or_default())?;
         }
         Ok(())
     }
 }
 
-// A segment's text; the root, which has none, is shown by another.
-fn text<'a>(segment: &'a [u8; 4], root: &'static str) -> &'a str {
-    if segment[0] == 0 {
-        return root;
-    }
-    str::from_utf8(segment).unwrap_or_default()
+// The last digit. A level stands at most 32 deep (`component_limit`), so two digits show it.
+fn digit(n: usize) -> u8 {
+    b'0' + (n % 10) as u8
 }
 
 // A whole table, and how many levels it has.
@@ -44,38 +57,56 @@ impl<'a> fmt::Display for Tree<'a> {
         let mut bindings = self.table.iter().skip(LEVELS);
         for word in self.table.iter().take(self.levels) {
             let level = listing::read(*word);
-            let segment = level.segment;
-            start_line(f, level.depth)?;
             let typ = level.typ;
-            write!(f, "{} {typ}", text(&segment, "\\"))?;
+            if level.segment[0] == 0 {
+                f.write_str("\n\\ ")?;
+            } else {
+                start_line(f, level.depth, &level.segment, None)?;
+            }
+            write!(f, "{typ}")?;
             let count = LevelWord(*word).count();
             for binding in bindings.by_ref().take(count) {
-                start_line(f, level.depth)?;
-                write_binding(f, BindingWord(*binding), self.table)?;
+                write_binding(f, level.depth + 1, BindingWord(*binding), self.table)?;
             }
         }
         Ok(())
     }
 }
 
-// A new line that starts so far in.
-fn start_line<W: fmt::Write>(f: &mut fmt::Formatter<W>, depth: usize) -> fmt::Result {
-    f.write_str("\n")?;
-    for _ in 0..depth {
-        f.write_str("  ")?;
-    }
-    Ok(())
+// How far in the deepest binding stands: one level further than its own (`component_limit`).
+const DEEPEST: usize = 33;
+
+// A new line that starts so far in with a segment, and with a mark behind it or none, at once: a write for each of these takes half as long again.
+fn start_line<W: fmt::Write>(
+    f: &mut fmt::Formatter<W>,
+    depth: usize,
+    segment: &[u8; 4],
+    mark: Option<u8>,
+) -> fmt::Result {
+    let mut line = [b' '; 1 + 2 * DEEPEST + 7];
+    line[0] = b'\n';
+    let at = 1 + 2 * depth.min(DEEPEST);
+    line[at..at + 4].copy_from_slice(segment);
+    let end = match mark {
+        Some(mark) => {
+            line[at + 5] = mark;
+            at + 7
+        }
+        None => at + 5,
+    };
+    f.write_str(str::from_utf8(&line[..end]).unwrap_or_default())
 }
 
-// `SEGMENT = VALUE handle HANDLE`, a level further in.
+// `SEGMENT = VALUE handle HANDLE`, so far in.
 fn write_binding<W: fmt::Write>(
     f: &mut fmt::Formatter<W>,
+    depth: usize,
     binding: BindingWord,
     table: &[u64],
 ) -> fmt::Result {
     let handle = binding.handle();
     let segment = segments::bytes(binding.segment());
-    let segment = str::from_utf8(&segment).unwrap_or_default();
     let value = listing::word(table, VALUES_AT + handle as usize);
-    write!(f, "  {segment} = {value} handle {handle}")
+    start_line(f, depth, &segment, Some(b'='))?;
+    write!(f, "{value} handle {handle}")
 }

@@ -18,10 +18,8 @@ mod words;
 
 use script::Script;
 use shell::Shell;
-use std::io;
-use std::io::BufReader;
 
-// How many bytes are read at a time. The answers that wait are written behind each such chunk (docs/DECISIONS.md).
+// How many bytes there are of the script at a time. The answers that wait are written behind each such chunk (docs/DECISIONS.md).
 const CHUNK: usize = 265_536;
 
 // What went wrong is told on standard error: a program has no status of its own.
@@ -36,8 +34,7 @@ fn report(rt: &impl Eprint, wrong_lines: u64, is_written: bool) {
     }
 }
 
-fn main(rt: HostRuntime) -> io::Result<()> {
-    let mut input = BufReader::with_capacity(rt.alloc(), CHUNK, rt.stdin())?;
+fn main(rt: HostRuntime) {
     let mut shell = Shell {
         table: [0; table::layout::WORDS],
         bytes: [0; words::MOST_BYTES],
@@ -45,7 +42,6 @@ fn main(rt: HostRuntime) -> io::Result<()> {
     };
     let _ = namespace::new(&mut shell.table);
     let mut script = Script::new(rt.alloc(), rt.stdout());
-    let served = script.serve(&mut input, &mut shell);
+    let served = script.serve(&mut rt.stdin(), &mut [0; CHUNK], &mut shell);
     report(&rt, script.wrong_lines(), served.is_ok());
-    Ok(())
 }

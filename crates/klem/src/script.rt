@@ -2,8 +2,9 @@
 use crate::answer::Answer;
 use crate::fault::Fault;
 use crate::shell::{LONGEST_LINE, Shell};
+use crate::words;
 use std::alloc::Global;
-use std::io::{BufRead, Stdout, Write};
+use std::io::{Read, Stdout, Write};
 use std::{fmt, io};
 
 // Where more bytes of answers wait, they are written before the next line.
@@ -36,16 +37,23 @@ impl Script {
 
     // The whole script, up to an answer that cannot be written. Answers are written before more is read, for those who wait for them; a read that fails is
     // the script's end. A proved loop has to end, and nothing says that the input does: so it takes no more turns than any run uses up.
-    pub fn serve<R: BufRead>(&mut self, input: &mut R, shell: &mut Shell) -> io::Result<()> {
+    pub fn serve<R: Read>(
+        &mut self,
+        input: &mut R,
+        chunk: &mut [u8],
+        shell: &mut Shell,
+    ) -> io::Result<()> {
         for _ in 0..u64::MAX {
-            let chunk = input.fill_buf().unwrap_or_default();
-            let read = chunk.len();
-            if read == 0 {
+            // No BufReader: what is kept of a line counts among a chunk's bytes, so that a script from a file is cut where it always was.
+            let room = chunk.len().saturating_sub(self.kept());
+            let (room, _) = chunk.split_at_mut(room);
+            let read = input.read(room).unwrap_or_default();
+            let piece = room.get(..read).unwrap_or_default();
+            if piece.is_empty() {
                 break;
             }
-            self.answer_chunk(chunk, shell)?;
+            self.answer_chunk(piece, shell)?;
             self.answers.write()?;
-            input.consume(read);
         }
         if !self.begun.is_empty() {
             self.answers.answer(self.begun.as_slice(), shell)?;
@@ -69,6 +77,12 @@ impl Script {
         Ok(())
     }
 
+    // How many bytes are kept for a line that may still be answered.
+    fn kept(&self) -> usize {
+        let begun = self.begun.len();
+        if begun <= LONGEST_LINE { begun } else { 0 }
+    }
+
     // Keeps what is known of a line; of one that is too long already no more is kept.
     fn begin(&mut self, piece: &[u8]) -> io::Result<()> {
         if self.begun.len() <= LONGEST_LINE {
@@ -89,6 +103,15 @@ struct Answers {
 impl Answers {
     fn answer(&mut self, line: &[u8], shell: &mut Shell) -> io::Result<()> {
         self.lines = self.lines.saturating_add(1);
+        // A blank line, or a comment: `shell` would say so too, but its answer takes room on the stack, which is made ready at each line that comes there.
+        if line.len() <= LONGEST_LINE && matches!(words::trimmed(line), [] | [b'#', ..]) {
+            return Ok(());
+        }
+        self.say(line, shell)
+    }
+
+    #[inline(never)]
+    fn say(&mut self, line: &[u8], shell: &mut Shell) -> io::Result<()> {
         let Some(said) = shell.answer(line) else {
             return Ok(());
         };
