@@ -61,7 +61,7 @@ impl<'a> fmt::Display for Tree<'a> {
             if level.segment[0] == 0 {
                 f.write_str("\n\\ ")?;
             } else {
-                start_line(f, level.depth, &level.segment, None)?;
+                start_line(f, level.depth, &level.segment)?;
             }
             write!(f, "{typ}")?;
             let count = LevelWord(*word).count();
@@ -76,28 +76,20 @@ impl<'a> fmt::Display for Tree<'a> {
 // How far in the deepest binding stands: one level further than its own (`component_limit`).
 const DEEPEST: usize = 33;
 
-// A new line that starts so far in with a segment, and with a mark behind it or none, at once: a write for each of these takes half as long again.
+// A new line that starts so far in with a segment and a blank, at once: a write for each of these takes half as long again.
 fn start_line<W: fmt::Write>(
     f: &mut fmt::Formatter<W>,
     depth: usize,
     segment: &[u8; 4],
-    mark: Option<u8>,
 ) -> fmt::Result {
-    let mut line = [b' '; 1 + 2 * DEEPEST + 7];
+    let mut line = [b' '; 1 + 2 * DEEPEST + 5];
     line[0] = b'\n';
     let at = 1 + 2 * depth.min(DEEPEST);
     line[at..at + 4].copy_from_slice(segment);
-    let end = match mark {
-        Some(mark) => {
-            line[at + 5] = mark;
-            at + 7
-        }
-        None => at + 5,
-    };
-    f.write_str(str::from_utf8(&line[..end]).unwrap_or_default())
+    f.write_str(str::from_utf8(&line[..at + 5]).unwrap_or_default())
 }
 
-// `SEGMENT = VALUE handle HANDLE`, so far in.
+// A new line with `SEGMENT = VALUE handle HANDLE`, so far in. At once too, its numbers spelt by hand: the line of a small value takes twice as long by `write!`.
 fn write_binding<W: fmt::Write>(
     f: &mut fmt::Formatter<W>,
     depth: usize,
@@ -105,8 +97,50 @@ fn write_binding<W: fmt::Write>(
     table: &[u64],
 ) -> fmt::Result {
     let handle = binding.handle();
-    let segment = segments::bytes(binding.segment());
-    let value = listing::word(table, VALUES_AT + handle as usize);
-    start_line(f, depth, &segment, Some(b'='))?;
-    write!(f, "{value} handle {handle}")
+    let mut line = Line {
+        bytes: [b' '; LONGEST],
+        at: LONGEST,
+    };
+    line.number(u64::from(handle));
+    line.text(b" handle ");
+    line.number(listing::word(table, VALUES_AT + handle as usize));
+    line.text(b" = ");
+    line.text(&segments::bytes(binding.segment()));
+    // The blanks that it starts with stand there.
+    line.at = line.at.saturating_sub(2 * depth.min(DEEPEST));
+    line.text(b"\n");
+    let line = line.bytes.get(line.at..).unwrap_or_default();
+    f.write_str(str::from_utf8(line).unwrap_or_default())
+}
+
+// The bytes of the longest line: its end and its blanks, a segment, ` = `, a number of 64 bits, ` handle `, a number of 32 bits.
+const LONGEST: usize = 1 + 2 * DEEPEST + 4 + 3 + 20 + 8 + 10;
+
+// A line that is put together from its end on, from where on it stands.
+#[derive(Clone, Copy)]
+struct Line {
+    bytes: [u8; LONGEST],
+    at: usize,
+}
+
+impl Line {
+    fn text<const N: usize>(&mut self, text: &[u8; N]) {
+        self.at = self.at.saturating_sub(N);
+        if let Some(behind) = self.bytes.get_mut(self.at..)
+            && let Some(place) = behind.first_chunk_mut::<N>()
+        {
+            *place = *text;
+        }
+    }
+
+    fn number(&mut self, number: u64) {
+        let mut rest = number;
+        for _ in 0..20 {
+            self.text(&[b'0' + (rest % 10) as u8]);
+            rest /= 10;
+            if rest == 0 {
+                break;
+            }
+        }
+    }
 }
